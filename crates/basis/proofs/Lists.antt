@@ -1,0 +1,60 @@
+-- Laws on lists: elements, tabulated lists, mapped lists, and buffers that are filled from the front.
+use Prim.Native.Nat.{ℕ, zero, suc, _+_, _≤_, _<_}
+use mathlib.Core.Path.{_≡_, refl, sym, ap, ap₂, _∙_}
+use mathlib.Core.List.{List, [], _∷_, _++_, map, append-assoc}
+use lib.ListN.{length, getD, drop, set, List·getD-eq-default}
+use lib.Seq.{drop-cons, set-at, sets, sets-eq}
+use native.Mathlib.Nat.{le-of-suc-le-suc, zero-add}
+use native.Mathlib.Numerals.{add-one}
+use native.Mathlib.Omega.{arith}
+use Rattle.basis.specs.Rows.{at, tabulate}
+
+pub at-past : (xs : List ℕ) (i : ℕ) → length xs ≤ i → at xs i ≡ 0
+at-past xs i h = List·getD-eq-default xs 0 h
+
+pub length-tabulate : (n : ℕ) (f : ℕ → ℕ) → length (tabulate n f) ≡ n
+unfolding tabulate
+length-tabulate zero f = refl
+length-tabulate (suc n) f = ap suc (length-tabulate n (λ i. f (suc i)))
+
+pub at-tabulate : (n : ℕ) (f : ℕ → ℕ) (i : ℕ) → i < n → at (tabulate n f) i ≡ f i
+unfolding tabulate
+at-tabulate zero f i h = absurd (omega arith)
+at-tabulate (suc n) f zero h = refl
+at-tabulate (suc n) f (suc i) h = at-tabulate n (λ k. f (suc k)) i (le-of-suc-le-suc h)
+
+tabulate-snoc : (n : ℕ) (f : ℕ → ℕ) → tabulate (suc n) f ≡ tabulate n f ++ (f n ∷ [])
+unfolding tabulate
+tabulate-snoc zero f = refl
+tabulate-snoc (suc n) f = ap (λ (l : List ℕ). f zero ∷ l) (tabulate-snoc n (λ i. f (suc i)))
+
+pub map-tabulate : (g : ℕ → ℕ) (n : ℕ) (f : ℕ → ℕ) → map g (tabulate n f) ≡ tabulate n (λ i. g (f i))
+unfolding tabulate
+map-tabulate g zero f = refl
+map-tabulate g (suc n) f = ap (λ (l : List ℕ). g (f zero) ∷ l) (map-tabulate g n (λ i. f (suc i)))
+
+-- two functions that agree on the elements give the same list
+pub map-same : (f g : ℕ → ℕ) (xs : List ℕ) → ((i : ℕ) → i < length xs → f (at xs i) ≡ g (at xs i)) → map f xs ≡ map g xs
+map-same f g [] h = refl
+map-same f g (x ∷ xs) h = ap₂ _∷_ (h 0 (omega arith)) (map-same f g xs (λ i k. h (suc i) (omega arith)))
+
+pub at-map : (f : ℕ → ℕ) (xs : List ℕ) (i : ℕ) → i < length xs → at (map f xs) i ≡ f (at xs i)
+at-map f [] i h = absurd (omega arith)
+at-map f (x ∷ xs) zero h = refl
+at-map f (x ∷ xs) (suc i) h = at-map f xs i (le-of-suc-le-suc h)
+
+-- a buffer that holds f 0, f 1, .. from the front: one store more
+pub fill-more : (now old : List ℕ) (f : ℕ → ℕ) (i v : ℕ) → i < length old → v ≡ f i → now ≡ tabulate i f ++ drop i old → set now i v ≡ tabulate (i + 1) f ++ drop (i + 1) old
+unfolding tabulate
+fill-more now old f i v h e q =
+    rw add-one
+    (ap (λ (l : List ℕ). set l i v) (q ∙ ap (λ (l : List ℕ). tabulate i f ++ l) (drop-cons old i 0 h))
+    ∙ set-at (tabulate i f) (getD old i 0) (drop (suc i) old) v i (length-tabulate i f)
+    ∙ ap (λ (x : ℕ). tabulate i f ++ x ∷ drop (suc i) old) e
+    ∙ sym (ap (λ (l : List ℕ). l ++ drop (suc i) old) (tabulate-snoc i f) ∙ append-assoc (tabulate i f) (f i ∷ []) (drop (suc i) old)))
+
+-- values stored one by one from the front stand before what was there
+pub sets-front : (values buffer : List ℕ) → length values ≤ length buffer → sets buffer 0 values ≡ values ++ drop (length values) buffer
+sets-front values buffer h =
+    let g : 0 + length values ≤ length buffer = omega arith in
+    sets-eq values buffer 0 g ∙ ap (λ (n : ℕ). values ++ drop n buffer) (zero-add (length values))

@@ -1,0 +1,115 @@
+-- Laws on tests: cases, conjunctions, ranges, tests at every number, and the first number at which a test holds.
+use Prim.Native.Nat.{ℕ, zero, suc, _≤_, _<_}
+use mathlib.Core.Path.{_≡_, refl, _∙_}
+use mathlib.Core.Bool.{Bool, true, false}
+use lib.Dec.{ltb, leb}
+use borrow.Author.Tests.{ltb-true, ltb-false, leb-true, le-leb, lt-leb}
+use native.Mathlib.Nat.{le-of-suc-le-suc}
+use native.Mathlib.Omega.{arith}
+use Rattle.basis.specs.Tests.{both, within, every, firstBelow, IsFirst}
+
+-- by the two values of a test, with the equation that it gives
+pub cases {ℓ} : {A : Type ℓ} (b : Bool) → (b ≡ true → A) → (b ≡ false → A) → A
+cases true f g = f refl
+cases false f g = g refl
+
+-- by order of two numbers
+pub by-lt {ℓ} : {A : Type ℓ} (m n : ℕ) → (m < n → A) → (n ≤ m → A) → A
+by-lt m n less more = cases (ltb m n) (λ e. less (ltb-true m n e)) (λ e. more (ltb-false m n e))
+
+pub true-not-false : {b : Bool} → b ≡ true → b ≡ false → ⊥
+true-not-false e d = let z : _≡_ {A = ℕ} 0 1 = cc in omega arith
+
+pub both-left : (a b : Bool) → both a b ≡ true → a ≡ true
+unfolding both
+both-left true b e = refl
+both-left false b e = e
+
+pub both-right : (a b : Bool) → both a b ≡ true → b ≡ true
+unfolding both
+both-right true b e = e
+both-right false b e = absurd (true-not-false e refl)
+
+pub both-true : {a b : Bool} → a ≡ true → b ≡ true → both a b ≡ true
+unfolding both
+both-true {a = true} e d = d
+both-true {a = false} e d = e
+
+-- a range and its bounds
+pub within-true : (low high x : ℕ) → low ≤ x → x ≤ high → within low high x ≡ true
+unfolding within
+within-true low high x h g = both-true (le-leb low x h) (le-leb x high g)
+
+pub within-below : (low high x : ℕ) → x < low → within low high x ≡ false
+unfolding within both
+within-below low high x h = rw (lt-leb low x h)
+
+pub within-above : (low high x : ℕ) → high < x → within low high x ≡ false
+unfolding within both
+within-above low high x h = cases (leb low x) (λ e. rw (e, lt-leb x high h)) (λ e. rw e)
+
+pub within-low : (low high x : ℕ) → within low high x ≡ true → low ≤ x
+unfolding within
+within-low low high x e = leb-true low x (both-left _ _ e)
+
+pub within-high : (low high x : ℕ) → within low high x ≡ true → x ≤ high
+unfolding within
+within-high low high x e = leb-true x high (both-right _ _ e)
+
+-- a test that holds at every number below n holds at each, and conversely
+pub at-each : (n : ℕ) (test : ℕ → Bool) → every n test ≡ true → (k : ℕ) → k < n → test k ≡ true
+unfolding every
+at-each zero test e k h = absurd (omega arith)
+at-each (suc n) test e zero h = both-left _ _ e
+at-each (suc n) test e (suc k) h = at-each n (λ i. test (suc i)) (both-right _ _ e) k (le-of-suc-le-suc h)
+
+pub each-at : (n : ℕ) (test : ℕ → Bool) → ((k : ℕ) → k < n → test k ≡ true) → every n test ≡ true
+unfolding every
+each-at zero test h = refl
+each-at (suc n) test h = both-true (h zero (omega arith)) (each-at n (λ i. test (suc i)) (λ k g. h (suc k) (omega arith)))
+
+pub first-le : (n : ℕ) (test : ℕ → Bool) → firstBelow n test ≤ n
+unfolding firstBelow
+first-le zero test = omega arith
+first-le (suc n) test =
+    let i = first-le n (λ i. test (suc i)) in
+    cases (test zero) (λ e. rw e (omega arith)) (λ e. rw e (omega arith))
+
+-- the test holds at no number before the first
+pub first-before : (n : ℕ) (test : ℕ → Bool) (j : ℕ) → j < firstBelow n test → test j ≡ false
+unfolding firstBelow
+first-before zero test j h = absurd (omega arith)
+first-before (suc n) test j h = cases (test zero) (λ e. absurd (none (rw e at h))) (λ e. later j e (rw e at h) (λ i g. first-before n (λ i. test (suc i)) i g))
+  where
+    none : {x : ℕ} → x < 0 → ⊥
+    none h = omega arith
+
+    later : (j : ℕ) → test zero ≡ false → j < suc (firstBelow n (λ i. test (suc i))) → ((i : ℕ) → i < firstBelow n (λ i. test (suc i)) → test (suc i) ≡ false) → test j ≡ false
+    later zero e h ih = e
+    later (suc j) e h ih = ih j (le-of-suc-le-suc h)
+
+-- the test holds at the first number, if that is below n
+pub first-here : (n : ℕ) (test : ℕ → Bool) → firstBelow n test < n → test (firstBelow n test) ≡ true
+unfolding firstBelow
+first-here zero test h = absurd (omega arith)
+first-here (suc n) test h = cases (test zero) (λ e. rw e e) (λ e. rw e (first-here n (λ i. test (suc i)) (le-of-suc-le-suc (rw e at h))))
+
+pub first-is : (n : ℕ) (test : ℕ → Bool) → firstBelow n test < n → IsFirst n test (firstBelow n test)
+first-is n test h = record { inside = h; here = first-here n test h; before = first-before n test }
+
+-- and there is one such number at most
+pub first-at : (n : ℕ) (test : ℕ → Bool) (k : ℕ) → k < n → test k ≡ true → ((j : ℕ) → j < k → test j ≡ false) → firstBelow n test ≡ k
+first-at n test k h e b =
+    by-lt (firstBelow n test) k
+    (λ g. absurd (true-not-false (first-here n test (omega arith)) (b (firstBelow n test) g)))
+    (λ g. by-lt k (firstBelow n test) (λ l. absurd (true-not-false e (first-before n test k l))) (λ l. omega arith))
+
+pub first-none : (n : ℕ) (test : ℕ → Bool) → ((j : ℕ) → j < n → test j ≡ false) → firstBelow n test ≡ n
+first-none n test b =
+    by-lt (firstBelow n test) n
+    (λ g. absurd (true-not-false (first-here n test g) (b (firstBelow n test) g)))
+    (λ g. let l = first-le n test in omega arith)
+
+-- a search that went to the end
+pub first-stop : (n : ℕ) (test : ℕ → Bool) (k : ℕ) → n ≤ k → k ≤ n → ((j : ℕ) → j < k → test j ≡ false) → firstBelow n test ≡ k
+first-stop n test k h g b = let e : n ≡ k = omega arith in first-none n test (rw (← e) at b) ∙ e

@@ -1,0 +1,5 @@
+-- The shared definitions: tests, rows, case, outcomes.
+pub mod Tests
+pub mod Rows
+pub mod Case
+pub mod Outcome

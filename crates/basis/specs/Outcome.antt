@@ -1,0 +1,39 @@
+-- What an entry answers, in the paper's numbers, and what it leaves in the lent buffer.
+use Prim.Native.Nat.{ℕ}
+use mathlib.Core.Bool.{Bool, true, false}
+use mathlib.Core.List.{List, _++_}
+use lib.ListN.{drop}
+use Rattle.basis.specs.declared.ErrorCode.{ErrorCode}
+use Rattle.basis.specs.declared.ErrorCode.the-variants.{Capacity, Empty, TooLong, NotAPoint, EdgeHyphen, AllLdh, OutsideAlphabet, NoPrefix, NotWellFormed, UnpairedSurrogate, UnknownScheme, OddByteCount, Truncated, Malformed}
+
+-- the number of each cause of refusal
+unfoldable pub numberOf : ErrorCode → ℕ
+numberOf Capacity = 1
+numberOf Empty = 2
+numberOf TooLong = 3
+numberOf NotAPoint = 4
+numberOf EdgeHyphen = 5
+numberOf AllLdh = 6
+numberOf OutsideAlphabet = 7
+numberOf NoPrefix = 8
+numberOf NotWellFormed = 9
+numberOf UnpairedSurrogate = 10
+numberOf UnknownScheme = 11
+numberOf OddByteCount = 12
+numberOf Truncated = 13
+numberOf Malformed = 14
+
+-- an entry is done, with a count, or refuses, with the error's number and position
+pub data Outcome : Type 0 where
+  done : ℕ → Outcome
+  refused : ℕ → ℕ → Outcome
+
+-- refused if the cause holds, else as what follows says: nested, these give the order of the refusals
+unfoldable pub refusedIf : Bool → ℕ → ℕ → Outcome → Outcome
+refusedIf true number position next = refused number position
+refusedIf false number position next = next
+
+-- the buffer afterwards: the values, and from the count on what it held; after a refusal all that it held
+unfoldable pub bufferAfter : Outcome → List ℕ → List ℕ → List ℕ
+bufferAfter (done count) values buffer = values ++ drop count buffer
+bufferAfter (refused number position) values buffer = buffer

@@ -1,0 +1,19 @@
+// The numbered errors that every entry answers with. The shared definitions stand in specs/, the laws on them in proofs/.
+
+// The causes of refusal of the scope paper, in its order; `numberOf` of specs/Outcome.antt gives each its number.
+pub enum ErrorCode {
+    Capacity,
+    Empty,
+    TooLong,
+    NotAPoint,
+    EdgeHyphen,
+    AllLdh,
+    OutsideAlphabet,
+    NoPrefix,
+    NotWellFormed,
+    UnpairedSurrogate,
+    UnknownScheme,
+    OddByteCount,
+    Truncated,
+    Malformed,
+}
