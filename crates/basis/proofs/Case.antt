@@ -56,6 +56,11 @@ small-small b =
     (λ e. let l = capital-low b e in rw (small-capital b e) (small-above (b + 32) (omega arith)))
     (λ e. rw (small-other b e) (small-other b e))
 
+pub all-small : (l : List ℕ) → map small (map small l) ≡ map small l
+all-small [] = refl
+all-small (b ∷ l) = ap₂ _∷_ (small-small b) (all-small l)
+
+-- two bytes are the same letter exactly when their small forms are the same
 pub same-letter : (a b : ℕ) → SameLetter a b → small a ≡ small b
 same-letter a b (inl e) = ap small e
 same-letter a b (inr (inl c)) =

@@ -1,5 +1,8 @@
 -- The laws on the shared definitions.
 pub mod Tests
 pub mod Lists
+pub mod Stores
 pub mod Case
 pub mod Outcome
+pub mod Causes
+pub mod Demands

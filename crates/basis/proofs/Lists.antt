@@ -7,7 +7,8 @@ use lib.Seq.{drop-cons, set-at, sets, sets-eq}
 use native.Mathlib.Nat.{le-of-suc-le-suc, zero-add}
 use native.Mathlib.Numerals.{add-one}
 use native.Mathlib.Omega.{arith}
-use Rattle.basis.specs.Rows.{at, tabulate}
+use Rattle.basis.specs.Rows.{at, tabulate, AllBelow}
+use Rattle.basis.proofs.Tests.{by-lt}
 
 pub at-past : (xs : List ℕ) (i : ℕ) → length xs ≤ i → at xs i ≡ 0
 at-past xs i h = List·getD-eq-default xs 0 h
@@ -22,6 +23,24 @@ unfolding tabulate
 at-tabulate zero f i h = absurd (omega arith)
 at-tabulate (suc n) f zero h = refl
 at-tabulate (suc n) f (suc i) h = at-tabulate n (λ k. f (suc k)) i (le-of-suc-le-suc h)
+
+-- a list is the tabulated list of its row
+pub tabulate-at : (xs : List ℕ) → tabulate (length xs) (at xs) ≡ xs
+unfolding tabulate
+tabulate-at [] = refl
+tabulate-at (x ∷ xs) = ap (λ (l : List ℕ). x ∷ l) (tabulate-at xs)
+
+-- a row that is 0 from n on is the row of its tabulated list
+pub row-tabulate : (n : ℕ) (f : ℕ → ℕ) → ((i : ℕ) → n ≤ i → f i ≡ 0) → (i : ℕ) → at (tabulate n f) i ≡ f i
+row-tabulate n f none i =
+    by-lt i n (at-tabulate n f i) (λ h. at-past (tabulate n f) i (rw (length-tabulate n f) h) ∙ sym (none i h))
+
+pub tabulate-below : (m n : ℕ) (f : ℕ → ℕ) → ((i : ℕ) → f i < m) → AllBelow m (tabulate n f)
+tabulate-below m n f h i g = rw (at-tabulate n f i (rw (length-tabulate n f) at g)) (h i)
+
+-- past the end too the row is below the bound
+pub row-below : (m : ℕ) (xs : List ℕ) → 0 < m → AllBelow m xs → (i : ℕ) → at xs i < m
+row-below m xs p h i = by-lt i (length xs) (h i) (λ g. rw (at-past xs i g) p)
 
 tabulate-snoc : (n : ℕ) (f : ℕ → ℕ) → tabulate (suc n) f ≡ tabulate n f ++ (f n ∷ [])
 unfolding tabulate
@@ -52,6 +71,10 @@ fill-more now old f i v h e q =
     ∙ set-at (tabulate i f) (getD old i 0) (drop (suc i) old) v i (length-tabulate i f)
     ∙ ap (λ (x : ℕ). tabulate i f ++ x ∷ drop (suc i) old) e
     ∙ sym (ap (λ (l : List ℕ). l ++ drop (suc i) old) (tabulate-snoc i f) ∙ append-assoc (tabulate i f) (f i ∷ []) (drop (suc i) old)))
+
+-- and all of them
+pub fill-done : (now old whole : List ℕ) (f : ℕ → ℕ) (i n : ℕ) → i ≡ n → whole ≡ tabulate n f → now ≡ tabulate i f ++ drop i old → now ≡ whole ++ drop n old
+fill-done now old whole f i n e w q = q ∙ ap (λ (k : ℕ). tabulate k f ++ drop k old) e ∙ ap (λ (l : List ℕ). l ++ drop n old) (sym w)
 
 -- values stored one by one from the front stand before what was there
 pub sets-front : (values buffer : List ℕ) → length values ≤ length buffer → sets buffer 0 values ≡ values ++ drop (length values) buffer

@@ -1,21 +1,17 @@
--- Laws on outcomes: which tests an outcome passed.
+-- Laws on outcomes: what an entry leaves in the buffer.
 use Prim.Native.Nat.{ℕ}
-use mathlib.Core.Path.{_≡_, refl}
-use mathlib.Core.Bool.{Bool, true, false}
-use native.Mathlib.Omega.{arith}
-use Rattle.basis.specs.Outcome.{Outcome, done, refused, refusedIf}
+use mathlib.Core.Path.{_≡_, sym}
+use mathlib.Core.List.{List, _++_}
+use lib.ListN.{drop}
+use Rattle.basis.specs.Outcome.{Outcome, done, refused, bufferAfter}
 
-done-not-refused : {n number position : ℕ} → refused number position ≡ done n → ⊥
-done-not-refused e = let z : _≡_ {A = ℕ} 0 1 = cc in omega arith
+-- an entry that answers with its outcome, and leaves the buffer or has put the values in front
+pub refused-leaves : (outcome : Outcome) (values buffer : List ℕ) (number position : ℕ) → outcome ≡ refused number position
+    → (refused number position ≡ outcome) × (buffer ≡ bufferAfter outcome values buffer)
+unfolding bufferAfter
+refused-leaves outcome values buffer number position e = (sym e, rw e)
 
--- what is done has passed the test
-pub done-passed : (test : Bool) (number position : ℕ) (next : Outcome) (n : ℕ) → refusedIf test number position next ≡ done n → (test ≡ false) × (next ≡ done n)
-unfolding refusedIf
-done-passed true number position next n e = absurd (done-not-refused e)
-done-passed false number position next n e = (refl, e)
-
--- what is refused under another number has passed the test
-pub other-passed : (test : Bool) (number position : ℕ) (next : Outcome) (k p : ℕ) → (number ≡ k → ⊥) → refusedIf test number position next ≡ refused k p → (test ≡ false) × (next ≡ refused k p)
-unfolding refusedIf
-other-passed true number position next k p n e = absurd (n (cc))
-other-passed false number position next k p n e = (refl, e)
+pub done-leaves : (outcome : Outcome) (values buffer now : List ℕ) (count : ℕ) → outcome ≡ done count → now ≡ values ++ drop count buffer
+    → (done count ≡ outcome) × (now ≡ bufferAfter outcome values buffer)
+unfolding bufferAfter
+done-leaves outcome values buffer now count e b = (sym e, rw e b)

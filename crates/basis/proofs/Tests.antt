@@ -1,9 +1,10 @@
 -- Laws on tests: cases, conjunctions, ranges, tests at every number, and the first number at which a test holds.
 use Prim.Native.Nat.{ℕ, zero, suc, _≤_, _<_}
-use mathlib.Core.Path.{_≡_, refl, _∙_}
-use mathlib.Core.Bool.{Bool, true, false}
-use lib.Dec.{ltb, leb}
-use borrow.Author.Tests.{ltb-true, ltb-false, leb-true, le-leb, lt-leb}
+use mathlib.Core.Path.{_≡_, refl, sym, ap, _∙_}
+use mathlib.Core.Bool.{Bool, true, false, not}
+use mathlib.Core.Logic.{_↔_}
+use lib.Dec.{ltb, leb, eqb}
+use borrow.Author.Tests.{ltb-true, ltb-false, leb-true, lt-ltb, le-ltb, le-leb, lt-leb, eqb-true, eq-eqb, not-true, not-false}
 use native.Mathlib.Nat.{le-of-suc-le-suc}
 use native.Mathlib.Omega.{arith}
 use Rattle.basis.specs.Tests.{both, within, every, firstBelow, IsFirst}
@@ -16,6 +17,20 @@ cases false f g = g refl
 -- by order of two numbers
 pub by-lt {ℓ} : {A : Type ℓ} (m n : ℕ) → (m < n → A) → (n ≤ m → A) → A
 by-lt m n less more = cases (ltb m n) (λ e. less (ltb-true m n e)) (λ e. more (ltb-false m n e))
+
+-- a test and what it tests
+pub ltb-iff : (m n : ℕ) → (ltb m n ≡ true) ↔ (m < n)
+ltb-iff m n = (ltb-true m n, lt-ltb m n)
+
+pub eqb-iff : (m n : ℕ) → (eqb m n ≡ true) ↔ (m ≡ n)
+eqb-iff m n = (eqb-true m n, eq-eqb m n)
+
+pub not-iff : (b : Bool) → (not b ≡ true) ↔ (b ≡ false)
+not-iff b = (not-true b, λ e. ap not e)
+
+-- a test that holds exactly if the one number is below the other
+pub ltb-is : (m n : ℕ) (b : Bool) → (m < n → b ≡ true) → (n ≤ m → b ≡ false) → ltb m n ≡ b
+ltb-is m n b less more = by-lt m n (λ h. lt-ltb m n h ∙ sym (less h)) (λ h. le-ltb m n h ∙ sym (more h))
 
 pub true-not-false : {b : Bool} → b ≡ true → b ≡ false → ⊥
 true-not-false e d = let z : _≡_ {A = ℕ} 0 1 = cc in omega arith
@@ -56,6 +71,10 @@ pub within-high : (low high x : ℕ) → within low high x ≡ true → x ≤ hi
 unfolding within
 within-high low high x e = leb-true x high (both-right _ _ e)
 
+-- above the lower bound the upper one decides
+pub within-from : (low high x : ℕ) → low ≤ x → ltb x (suc high) ≡ within low high x
+within-from low high x l = ltb-is x (suc high) _ (λ h. within-true low high x l (le-of-suc-le-suc h)) (λ h. within-above low high x h)
+
 -- a test that holds at every number below n holds at each, and conversely
 pub at-each : (n : ℕ) (test : ℕ → Bool) → every n test ≡ true → (k : ℕ) → k < n → test k ≡ true
 unfolding every
@@ -67,6 +86,11 @@ pub each-at : (n : ℕ) (test : ℕ → Bool) → ((k : ℕ) → k < n → test 
 unfolding every
 each-at zero test h = refl
 each-at (suc n) test h = both-true (h zero (omega arith)) (each-at n (λ i. test (suc i)) (λ k g. h (suc k) (omega arith)))
+
+-- what holds of 0, and of each successor of a number below n, holds of each number below n + 1
+pub from-first : (P : ℕ → Type 0) (n : ℕ) → P 0 → ((k : ℕ) → k < n → P (suc k)) → (k : ℕ) → k < suc n → P k
+from-first P n z s zero h = z
+from-first P n z s (suc k) h = s k (le-of-suc-le-suc h)
 
 pub first-le : (n : ℕ) (test : ℕ → Bool) → firstBelow n test ≤ n
 unfolding firstBelow
@@ -113,3 +137,10 @@ first-none n test b =
 -- a search that went to the end
 pub first-stop : (n : ℕ) (test : ℕ → Bool) (k : ℕ) → n ≤ k → k ≤ n → ((j : ℕ) → j < k → test j ≡ false) → firstBelow n test ≡ k
 first-stop n test k h g b = let e : n ≡ k = omega arith in first-none n test (rw (← e) at b) ∙ e
+
+-- a test holds at every number below n exactly when there is no first at which it fails
+pub none-iff : (n : ℕ) (test : ℕ → Bool) → (firstBelow n (λ k. not (test k)) ≡ n) ↔ (every n test ≡ true)
+none-iff n test = (
+  λ e. each-at n test (λ k h. not-false (test k) (first-before n (λ k. not (test k)) k (rw e h))),
+  λ e. first-none n (λ k. not (test k)) (λ k h. ap not (at-each n test e k h)),
+)

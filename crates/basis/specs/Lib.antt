@@ -3,3 +3,5 @@ pub mod Tests
 pub mod Rows
 pub mod Case
 pub mod Outcome
+pub mod Causes
+pub mod Demands

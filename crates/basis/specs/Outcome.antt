@@ -5,6 +5,8 @@ use mathlib.Core.List.{List, _++_}
 use lib.ListN.{drop}
 use Rattle.basis.specs.declared.ErrorCode.{ErrorCode}
 use Rattle.basis.specs.declared.ErrorCode.the-variants.{Capacity, Empty, TooLong, NotAPoint, EdgeHyphen, AllLdh, OutsideAlphabet, NoPrefix, NotWellFormed, UnpairedSurrogate, UnknownScheme, OddByteCount, Truncated, Malformed}
+use Rattle.basis.specs.declared.BytesAnswer.{BytesAnswer}
+use Rattle.basis.specs.declared.BytesAnswer.the-variants.{Bytes, Error}
 
 -- the number of each cause of refusal
 unfoldable pub numberOf : ErrorCode → ℕ
@@ -27,6 +29,11 @@ numberOf Malformed = 14
 pub data Outcome : Type 0 where
   done : ℕ → Outcome
   refused : ℕ → ℕ → Outcome
+
+-- the count of an answer in bytes, or its error's number and position
+unfoldable pub bytesOutcome : BytesAnswer → Outcome
+bytesOutcome (Bytes count) = done (count .0)
+bytesOutcome (Error code position) = refused (numberOf code) position
 
 -- refused if the cause holds, else as what follows says: nested, these give the order of the refusals
 unfoldable pub refusedIf : Bool → ℕ → ℕ → Outcome → Outcome

@@ -1,4 +1,5 @@
-// The numbered errors that every entry answers with. The shared definitions stand in specs/, the laws on them in proofs/.
+// The numbered errors that every entry answers with, and an answer in bytes. The shared definitions stand in specs/, the laws
+// on them in proofs/.
 
 // The causes of refusal of the scope paper, in its order; `numberOf` of specs/Outcome.antt gives each its number.
 pub enum ErrorCode {
@@ -16,4 +17,13 @@ pub enum ErrorCode {
     OddByteCount,
     Truncated,
     Malformed,
+}
+
+// How many bytes.
+pub struct ByteCount(pub usize);
+
+// The answer of an entry that writes bytes: how many, or the error.
+pub enum BytesAnswer {
+    Bytes(ByteCount),
+    Error { code: ErrorCode, position: usize },
 }

@@ -1,0 +1,22 @@
+-- The table's entry, or 0 past its end.
+use mathlib.Core.Path.{refl, sym}
+use native.Mathlib.Omega.{arith}
+use borrow.Author.Needs.{needs}
+use Rattle.basis.proofs.Lists.{at-past}
+use Rattle.base32.specs.Alphabet.{altdude, characterOf}
+use Rattle.base32.proofs.alphabet.altdude_character.Statement.{statement}
+use Rattle.base32.proofs.alphabet.altdude_character.Tie as tie
+
+array-read-result : tie.Need-array-read-result
+array-read-result c = search needs
+
+returns : tie.Need-returns
+unfolding characterOf altdude
+returns c = refl
+
+returns-2 : tie.Need-returns-2
+unfolding characterOf altdude
+returns-2 c = sym (at-past altdude (c .before .args .quintet) (omega arith))
+
+pub altdude-character-spec : {M : Type 1} → statement M
+altdude-character-spec = tie.close (tie.spec array-read-result returns returns-2)

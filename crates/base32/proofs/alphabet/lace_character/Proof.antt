@@ -1,0 +1,22 @@
+-- The table's entry, or 0 past its end.
+use mathlib.Core.Path.{refl, sym}
+use native.Mathlib.Omega.{arith}
+use borrow.Author.Needs.{needs}
+use Rattle.basis.proofs.Lists.{at-past}
+use Rattle.base32.specs.Alphabet.{lace, characterOf}
+use Rattle.base32.proofs.alphabet.lace_character.Statement.{statement}
+use Rattle.base32.proofs.alphabet.lace_character.Tie as tie
+
+array-read-result : tie.Need-array-read-result
+array-read-result c = search needs
+
+returns : tie.Need-returns
+unfolding characterOf lace
+returns c = refl
+
+returns-2 : tie.Need-returns-2
+unfolding characterOf lace
+returns-2 c = sym (at-past lace (c .before .args .quintet) (omega arith))
+
+pub lace-character-spec : {M : Type 1} → statement M
+lace-character-spec = tie.close (tie.spec array-read-result returns returns-2)

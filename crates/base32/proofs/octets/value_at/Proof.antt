@@ -1,0 +1,35 @@
+-- The value of the character there, or 0 past the end.
+use mathlib.Core.Path.{sym, _∙_}
+use native.Mathlib.Omega.{arith}
+use borrow.Author.Needs.{needs}
+use Rattle.basis.specs.Rows.{at}
+use Rattle.basis.proofs.Lists.{at-past}
+use Rattle.base32.specs.Alphabet.{lace, valuesOf}
+use Rattle.base32.proofs.Inverse.{value-le, lace-alphabet}
+use Rattle.base32.proofs.Values.{length-values, at-values}
+use Rattle.base32.proofs.octets.value_at.Statement.{statement}
+use Rattle.base32.proofs.octets.value_at.Tie as tie
+
+shared-slice-read-lace-value : tie.Need-shared-slice-read-lace-value
+shared-slice-read-lace-value c = search needs
+
+lace-value-requires : tie.Need-lace-value-requires
+lace-value-requires c κs = search needs
+
+cast-result : tie.Need-cast-result
+cast-result c = search needs
+
+returns : tie.Need-returns
+returns c =
+    let a = c .before .before .before .before .args in
+    (c .lace-value .ensures ∙ sym (at-values lace (a .characters .now) (a .i) (omega arith)), omega (arith, c .lace-value .ensures, value-le lace lace-alphabet (at (a .characters .now) (a .i))))
+
+returns-2 : tie.Need-returns-2
+returns-2 c =
+    let a = c .before .before .args in
+    (sym (at-past (valuesOf lace (a .characters .now)) (a .i) (omega (arith, length-values lace (a .characters .now)))), search needs)
+
+pub value-at-spec : {M : Type 1} → statement M
+value-at-spec =
+    tie.close
+    (tie.spec shared-slice-read-lace-value lace-value-requires cast-result returns returns-2)

@@ -1,0 +1,165 @@
+-- Laws on one point or unit: what is a point, a surrogate and a pair, the units of a point, the point that a unit ends, and unpaired surrogates.
+use Prim.Native.Nat.{ℕ, _+_, _≤_, _<_}
+use mathlib.Core.Path.{_≡_, ap}
+use mathlib.Core.Bool.{Bool, true, false, not}
+use mathlib.Core.List.{List, _∷_}
+use lib.ListN.{length, getD}
+use borrow.Author.Tests.{leb-true, lt-ltb, le-ltb, le-leb, lt-leb}
+use native.Mathlib.Numerals.{add-one}
+use native.Mathlib.Omega.{arith}
+use Rattle.basis.specs.Tests.{both}
+use Rattle.basis.proofs.Tests.{cases, by-lt, true-not-false, both-left, both-true, within-true, within-below, within-above, within-low, within-high, at-each}
+use Rattle.utf16.specs.Points.{isPoint, isText}
+use Rattle.utf16.specs.Units.{isHigh, isLow, highOf, lowOf, pairOf, unitsOf, pointOf, isUnpaired, unpairedAt}
+
+-- 0 is no surrogate
+pub zero-not-high : isHigh 0 ≡ false
+unfolding isHigh
+zero-not-high = within-below 0xd800 0xdbff 0 (omega arith)
+
+pub zero-not-low : isLow 0 ≡ false
+unfolding isLow
+zero-not-low = within-below 0xdc00 0xdfff 0 (omega arith)
+
+-- a high surrogate is no low one
+pub high-not-low : (u : ℕ) → isHigh u ≡ true → isLow u ≡ false
+unfolding isHigh isLow
+high-not-low u h = let g = within-high 0xd800 0xdbff u h in within-below 0xdc00 0xdfff u (omega arith)
+
+pub low-not-high : (u : ℕ) → isLow u ≡ true → isHigh u ≡ false
+unfolding isHigh isLow
+low-not-high u h = let g = within-low 0xdc00 0xdfff u h in within-above 0xd800 0xdbff u (omega arith)
+
+-- a point is at most 10FFFF hex, and no surrogate
+pub point-top : (p : ℕ) → isPoint p ≡ true → p ≤ 0x10ffff
+unfolding isPoint
+point-top p e = leb-true p 0x10ffff (both-left _ _ e)
+
+-- what is a point, by its place
+pub under-point : (p : ℕ) → p < 0xd800 → isPoint p ≡ true
+unfolding isPoint
+under-point p h = both-true (le-leb p 0x10ffff (omega arith)) (ap not (within-below 0xd800 0xdfff p h))
+
+pub over-point : (p : ℕ) → 0xdfff < p → p ≤ 0x10ffff → isPoint p ≡ true
+unfolding isPoint
+over-point p h t = both-true (le-leb p 0x10ffff t) (ap not (within-above 0xd800 0xdfff p h))
+
+pub between-no-point : (p : ℕ) → 0xd800 ≤ p → p ≤ 0xdfff → isPoint p ≡ false
+unfolding isPoint both
+between-no-point p l h = rw (le-leb p 0x10ffff (omega arith), within-true 0xd800 0xdfff p l h)
+
+pub above-no-point : (p : ℕ) → 0x10ffff < p → isPoint p ≡ false
+unfolding isPoint both
+above-no-point p h = rw (lt-leb p 0x10ffff h)
+
+point-beside {ℓ} : {A : Type ℓ} (p : ℕ) → isPoint p ≡ true → (p < 0xd800 → A) → (0xdfff < p → A) → A
+point-beside p e under over =
+    by-lt p 0xd800 under (λ l. by-lt 0xdfff p over (λ h. absurd (true-not-false e (between-no-point p l h))))
+
+pub point-not-high : (p : ℕ) → isPoint p ≡ true → isHigh p ≡ false
+unfolding isHigh
+point-not-high p e = point-beside p e (λ h. within-below 0xd800 0xdbff p h) (λ h. within-above 0xd800 0xdbff p (omega arith))
+
+pub point-not-low : (p : ℕ) → isPoint p ≡ true → isLow p ≡ false
+unfolding isLow
+point-not-low p e = point-beside p e (λ h. within-below 0xdc00 0xdfff p (omega arith)) (λ h. within-above 0xdc00 0xdfff p h)
+
+-- a unit that is no surrogate is a point
+pub plain-point : (u : ℕ) → u < 0x10000 → isHigh u ≡ false → isLow u ≡ false → isPoint u ≡ true
+unfolding isHigh isLow
+plain-point u b h l =
+    by-lt u 0xd800 (λ g. under-point u g)
+    (λ g. by-lt 0xdfff u (λ k. over-point u k (omega arith))
+    (λ k. by-lt u 0xdc00
+    (λ m. absurd (true-not-false (within-true 0xd800 0xdbff u g (omega arith)) h))
+    (λ m. absurd (true-not-false (within-true 0xdc00 0xdfff u m k) l))))
+
+-- a point of 10000 hex or more and its pair
+module _ (p : ℕ) (big : 0x10000 ≤ p) (top : p ≤ 0x10ffff) where
+  pub high-of : isHigh (highOf p) ≡ true
+  unfolding isHigh
+  high-of = within-true 0xd800 0xdbff (highOf p) (omega arith) (omega arith)
+
+  pub low-of : isLow (lowOf p) ≡ true
+  unfolding isLow
+  low-of = within-true 0xdc00 0xdfff (lowOf p) (omega arith) (omega arith)
+
+  pub pair-of : pairOf (highOf p) (lowOf p) ≡ p
+  pair-of = omega arith
+
+-- a pair and its point
+module _ (high low : ℕ) (eh : isHigh high ≡ true) (el : isLow low ≡ true) where
+  pub pair-big : 0x10000 ≤ pairOf high low
+  pair-big = omega arith
+
+  pub pair-high : highOf (pairOf high low) ≡ high
+  unfolding isHigh
+  pair-high =
+      let a = within-low 0xd800 0xdbff high eh in
+      let b = within-high 0xd800 0xdbff high eh in
+      omega arith
+
+  pub pair-low : lowOf (pairOf high low) ≡ low
+  unfolding isLow
+  pair-low =
+      let a = within-low 0xdc00 0xdfff low el in
+      let b = within-high 0xdc00 0xdfff low el in
+      omega arith
+
+  pub pair-point : isPoint (pairOf high low) ≡ true
+  pair-point = over-point (pairOf high low) (omega arith) (omega arith)
+
+-- the units of a point, by its size
+pub units-small : (p : ℕ) (rest : List ℕ) → p < 0x10000 → unitsOf p rest ≡ p ∷ rest
+unfolding unitsOf
+units-small p rest h = rw (lt-ltb p 0x10000 h)
+
+pub units-big : (p : ℕ) (rest : List ℕ) → 0x10000 ≤ p → unitsOf p rest ≡ highOf p ∷ lowOf p ∷ rest
+unfolding unitsOf
+units-big p rest h = rw (le-ltb p 0x10000 h)
+
+-- the point that a unit ends, by its kind
+pub point-high : (before u : ℕ) (rest : List ℕ) → isHigh u ≡ true → pointOf before u rest ≡ rest
+unfolding pointOf
+point-high before u rest h = rw h
+
+pub point-low : (before u : ℕ) (rest : List ℕ) → isLow u ≡ true → pointOf before u rest ≡ pairOf before u ∷ rest
+unfolding pointOf
+point-low before u rest l = rw (low-not-high u l, l)
+
+pub point-plain : (before u : ℕ) (rest : List ℕ) → isHigh u ≡ false → isLow u ≡ false → pointOf before u rest ≡ u ∷ rest
+unfolding pointOf
+point-plain before u rest h l = rw (h, l)
+
+-- a point has at most two units, a unit ends at most one point
+pub length-unitsOf : (p : ℕ) (rest : List ℕ) → length (unitsOf p rest) ≤ 2 + length rest
+length-unitsOf p rest = by-lt p 0x10000 (λ h. rw (units-small p rest h) (omega arith)) (λ h. rw (units-big p rest h) (omega arith))
+
+pub length-pointOf : (before u : ℕ) (rest : List ℕ) → length (pointOf before u rest) ≤ 1 + length rest
+unfolding pointOf
+length-pointOf before u rest =
+    cases (isHigh u) (λ h. rw h (omega arith)) (λ h. cases (isLow u) (λ l. rw (h, l) (omega arith)) (λ l. rw (h, l) (omega arith)))
+
+-- when a unit is unpaired, by its kind
+pub unpaired-high : (before u after : ℕ) → isHigh u ≡ true → isUnpaired before u after ≡ not (isLow after)
+unfolding isUnpaired both
+unpaired-high before u after h = rw (h, high-not-low u h) (cases (isLow after) (λ e. rw e) (λ e. rw e))
+
+pub unpaired-low : (before u after : ℕ) → isLow u ≡ true → isUnpaired before u after ≡ not (isHigh before)
+unfolding isUnpaired both
+unpaired-low before u after l = rw (l, low-not-high u l)
+
+pub unpaired-plain : (before u after : ℕ) → isHigh u ≡ false → isLow u ≡ false → isUnpaired before u after ≡ false
+unfolding isUnpaired both
+unpaired-plain before u after h l = rw (h, l)
+
+-- a search's test of the unit at an index is that of the unit between its neighbours
+pub unpaired-here : (us : List ℕ) (i before after : ℕ) (found : Bool) → before ≡ getD (0 ∷ us) i 0 → after ≡ getD us (i + 1) 0
+    → found ≡ isUnpaired before (getD us i 0) after → unpairedAt 0 us i ≡ found
+unfolding unpairedAt
+unpaired-here us i before after found b a f = rw (f, b, a, add-one)
+
+-- each number of a text is a point
+pub text-at : (ps : List ℕ) (i : ℕ) → isText ps ≡ true → i < length ps → isPoint (getD ps i 0) ≡ true
+unfolding isText
+text-at ps i e h = at-each (length ps) _ e i h

@@ -1,0 +1,65 @@
+-- `points::first_not_point` meets its contract: every number passed is a point.
+use Prim.Native.Nat.{ℕ, _-_, _≤_, _<_}
+use mathlib.Core.Path.{_≡_, sym, ap, _∙_}
+use mathlib.Core.Bool.{false, not}
+use lib.ListN.{length, getD}
+use borrow.Author.Count.{below-none, below-more}
+use borrow.Author.Needs.{needs}
+use native.Mathlib.Omega.{arith}
+use Rattle.basis.proofs.Tests.{first-at, first-stop}
+use Rattle.utf16.specs.Points.{isPoint, firstNotPoint}
+use Rattle.utf16.proofs.points.first_not_point.Statement.{statement}
+use Rattle.utf16.proofs.points.first_not_point.Tie as tie
+
+abbrev Inv-loop : tie.InvT-loop
+Inv-loop numbers i₀ i = (i ≤ length numbers) × ((k : ℕ) → k < i → not (isPoint (getD numbers k 0)) ≡ false)
+
+abbrev μ-loop : tie.MeasureT-loop
+μ-loop numbers i₀ i = length numbers - i
+
+loop-holds : tie.Need-loop-holds Inv-loop μ-loop
+loop-holds c = (search needs, below-none _)
+
+mul-is-point : tie.Need-mul-is-point Inv-loop μ-loop
+mul-is-point c = search needs
+
+shared-slice-read-is-point : tie.Need-shared-slice-read-is-point Inv-loop μ-loop
+shared-slice-read-is-point c = search needs
+
+is-point-requires : tie.Need-is-point-requires Inv-loop μ-loop
+is-point-requires c κs = search needs
+
+returns : tie.Need-returns Inv-loop μ-loop
+unfolding firstNotPoint
+returns c =
+    let l = c .before .before .before .before in
+    sym (first-at _ _ _ (c .before .before .before .loop-test .taken) (ap not (sym (c .before .is-point .ensures)) ∙ c .if1 .taken) (l .loop .inv .1))
+
+add-i : tie.Need-add-i Inv-loop μ-loop
+add-i c = search needs
+
+loop-less : tie.Need-loop-less Inv-loop μ-loop
+loop-less c = search needs
+
+loop-again : tie.Need-loop-again Inv-loop μ-loop
+loop-again c = (omega arith, below-more _ _ (c .before .before .before .before .loop .inv .1) (ap not (sym (c .before .is-point .ensures)) ∙ c .if1 .left))
+
+returns-2 : tie.Need-returns-2 Inv-loop μ-loop
+unfolding firstNotPoint
+returns-2 c = sym (first-stop _ _ _ (c .loop-test .left) (c .before .loop .inv .0) (c .before .loop .inv .1))
+
+pub first-not-point-spec : {M : Type 1} → statement M
+first-not-point-spec =
+    tie.close
+    (tie.spec
+    Inv-loop
+    μ-loop
+    loop-holds
+    mul-is-point
+    shared-slice-read-is-point
+    is-point-requires
+    returns
+    add-i
+    loop-less
+    loop-again
+    returns-2)

@@ -1,0 +1,86 @@
+// The converter between points and UTF-16 units, with a count of each in a type of its own.
+pub mod points;
+mod units;
+
+use basis::ErrorCode;
+ghost use mathlib.Core.Path.{_≡_};
+ghost use lib.ListN.{length, take};
+ghost use Rattle.basis.specs.Outcome.{bufferAfter};
+ghost use Rattle.utf16.specs.Units.{toUnits, toPoints};
+ghost use Rattle.utf16.specs.Answer.{unitsOutcome, pointsOutcome, toUnitsOutcome, toPointsOutcome};
+
+// How many points: what the screen counts.
+pub struct PointCount(pub usize);
+
+// How many units: what the radio counts.
+pub struct UnitCount(pub usize);
+
+// What `to_units` answers.
+pub enum UnitsAnswer {
+    Units(UnitCount),
+    Error { code: ErrorCode, position: usize },
+}
+
+// What `to_points` answers.
+pub enum PointsAnswer {
+    Points(PointCount),
+    Error { code: ErrorCode, position: usize },
+}
+
+// Writes the units of the first `count` points.
+pub fn to_units(points: &[u32], count: PointCount, units: &mut [u16]) -> UnitsAnswer
+    ensures { λ r. ⌜ unitsOutcome r ≡ toUnitsOutcome (now (points .entry)) (count .0) (length (now (units .entry))) ⌝ }
+    ensures { λ r. ⌜ now (units .exit) ≡ bufferAfter (toUnitsOutcome (now (points .entry)) (count .0) (length (now (units .entry)))) (toUnits (take (count .0) (now (points .entry)))) (now (units .entry)) ⌝ }
+{
+    let n = count.0;
+    if points.len() < n {
+        return UnitsAnswer::Error {
+            code: ErrorCode::Capacity,
+            position: 0,
+        };
+    }
+    if units.len() < 2 * n {
+        return UnitsAnswer::Error {
+            code: ErrorCode::Capacity,
+            position: 0,
+        };
+    }
+    let row = &points[..n];
+    let bad = points::first_not_point(row);
+    if bad < n {
+        return UnitsAnswer::Error {
+            code: ErrorCode::NotAPoint,
+            position: bad,
+        };
+    }
+    UnitsAnswer::Units(UnitCount(units::put_units(row, units)))
+}
+
+// Writes the points of the first `count` units.
+pub fn to_points(units: &[u16], count: UnitCount, points: &mut [u32]) -> PointsAnswer
+    ensures { λ r. ⌜ pointsOutcome r ≡ toPointsOutcome (now (units .entry)) (count .0) (length (now (points .entry))) ⌝ }
+    ensures { λ r. ⌜ now (points .exit) ≡ bufferAfter (toPointsOutcome (now (units .entry)) (count .0) (length (now (points .entry)))) (toPoints (take (count .0) (now (units .entry)))) (now (points .entry)) ⌝ }
+{
+    let n = count.0;
+    if units.len() < n {
+        return PointsAnswer::Error {
+            code: ErrorCode::Capacity,
+            position: 0,
+        };
+    }
+    if points.len() < n {
+        return PointsAnswer::Error {
+            code: ErrorCode::Capacity,
+            position: 0,
+        };
+    }
+    let row = &units[..n];
+    let bad = units::first_unpaired(row);
+    if bad < n {
+        return PointsAnswer::Error {
+            code: ErrorCode::UnpairedSurrogate,
+            position: bad,
+        };
+    }
+    PointsAnswer::Points(PointCount(units::put_points(row, points)))
+}
