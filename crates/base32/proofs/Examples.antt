@@ -7,7 +7,8 @@ use Rattle.basis.specs.Rows.{tabulate}
 use Rattle.basis.specs.Case.{isCapital, small}
 use Rattle.base32.specs.Alphabet.{lace, characterOf, valueOf, valuesOf}
 use Rattle.base32.specs.Bits.{bitOf, fromBits, rowBit, group, regroup}
-use Rattle.base32.specs.Base32.{toQuintets, toOctets, lengthLawful, spareZero, isLawful, charactersOf}
+use Rattle.base32.specs.Form.{lengthLawful, spareZero, isLawful}
+use Rattle.base32.specs.Base32.{toQuintets, toOctets, charactersOf}
 
 -- octets FF 00 FC: 74apy
 written-74apy : charactersOf lace (0xff ∷ 0x00 ∷ 0xfc ∷ []) ≡ 55 ∷ 52 ∷ 97 ∷ 112 ∷ 121 ∷ []

@@ -12,7 +12,7 @@ use Rattle.basis.specs.Tests.{both}
 use Rattle.basis.specs.Rows.{at}
 use Rattle.basis.proofs.Tests.{by-lt}
 use Rattle.base32.specs.Bits.{regroup}
-use Rattle.base32.specs.Base32.{octetCount, lengthLawful, isLawful}
+use Rattle.base32.specs.Form.{octetCount, lengthLawful, isLawful}
 use Rattle.base32.proofs.Regroup.{spare-octet}
 
 -- the length by its remainder on division by 8

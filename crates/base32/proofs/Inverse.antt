@@ -1,7 +1,7 @@
 -- Character and value are inverse over any alphabet that passes the test, and both alphabets pass it.
 use Prim.Native.Nat.{ℕ, _≤_, _<_}
 use mathlib.Core.Path.{_≡_, refl, sym, ap, _∙_}
-use mathlib.Core.Bool.{true, false, not}
+use mathlib.Core.Bool.{true, false, _||_, not}
 use mathlib.Core.Logic.{_↔_}
 use mathlib.Core.List.{List}
 use lib.Dec.{eqb}
@@ -11,7 +11,8 @@ use native.Mathlib.Omega.{arith}
 use Rattle.basis.specs.Tests.{both, within, every, firstBelow, firstIn}
 use Rattle.basis.specs.Rows.{at}
 use Rattle.basis.specs.Case.{small, SameLetter}
-use Rattle.basis.proofs.Tests.{both-left, both-right, at-each, first-le, first-here}
+use Rattle.basis.proofs.Tests.{cases, by-lt, both-left, both-right, within-low, at-each, first-le, first-here}
+use Rattle.basis.proofs.Lists.{at-past}
 use Rattle.basis.proofs.Case.{small-small, small-or-digit, letter-same, same-letter}
 use Rattle.base32.specs.Alphabet.{altdude, lace, characterOf, valueOf, isAlphabet, isDistinct, isCharacter}
 
@@ -35,12 +36,30 @@ module _ (alphabet : List ℕ) (test : isAlphabet alphabet ≡ true) where
   unfolding isAlphabet
   length-alphabet = eqb-true (length alphabet) 32 (both-left _ _ test)
 
-  -- every entry is its own small form
-  entry-small : (q : ℕ) → q < 32 → small (at alphabet q) ≡ at alphabet q
+  -- every entry is a small letter or a digit
+  entry : (q : ℕ) → q < 32 → (within 97 122 (at alphabet q) || within 48 57 (at alphabet q)) ≡ true
   unfolding isAlphabet
-  entry-small q h =
+  entry q h =
       let e : q < length alphabet = omega (arith, length-alphabet) in
-      small-or-digit (at alphabet q) (at-each _ _ (both-left _ _ (both-right _ _ test)) q e)
+      at-each _ _ (both-left _ _ (both-right _ _ test)) q e
+
+  -- so it is its own small form
+  entry-small : (q : ℕ) → q < 32 → small (at alphabet q) ≡ at alphabet q
+  entry-small q h = small-or-digit (at alphabet q) (entry q h)
+
+  -- and no hyphen; nor is what stands past the end
+  pub character-no-hyphen : (q : ℕ) → characterOf alphabet q ≡ 45 → ⊥
+  unfolding characterOf
+  character-no-hyphen q e =
+      by-lt q 32
+      (λ h. omega (arith, from-digits (at alphabet q) (entry q h)))
+      (λ h. omega (arith, at-past alphabet q (omega (arith, length-alphabet))))
+    where
+      from-digits : (c : ℕ) → (within 97 122 c || within 48 57 c) ≡ true → 48 ≤ c
+      from-digits c t =
+          cases (within 97 122 c)
+          (λ l. omega (arith, within-low 97 122 c l))
+          (λ l. within-low 48 57 c (rw l at t))
 
   -- the value of the character for q is q
   pub value-character : (q : ℕ) → q < 32 → valueOf alphabet (characterOf alphabet q) ≡ q

@@ -2,17 +2,20 @@
 use Prim.Native.Nat.{ℕ, _≤_, _<_}
 use mathlib.Core.Path.{_≡_}
 use mathlib.Core.Bool.{true, false, not}
+use mathlib.Core.Logic.{⊎-elim}
 use mathlib.Core.List.{List}
 use lib.Dec.{ltb}
 use lib.ListN.{length}
 use borrow.Author.Tests.{lt-ltb, le-ltb}
+use native.Mathlib.Omega.{arith}
 use Rattle.basis.specs.Rows.{at}
 use Rattle.basis.specs.Outcome.{done, refused, refusedIf}
 use Rattle.basis.specs.Causes.{Settles}
 use Rattle.basis.proofs.Tests.{ltb-iff, not-iff}
 use Rattle.basis.proofs.Causes.{settle-whole, settle-first, settle-done}
 use Rattle.base32.specs.Alphabet.{lace, isCharacter, valuesOf}
-use Rattle.base32.specs.Base32.{quintetCount, octetCount, isLawful}
+use Rattle.base32.specs.Form.{octetCount, isLawful}
+use Rattle.base32.specs.Base32.{quintetCount}
 use Rattle.base32.specs.Answer.{firstOutside, encodeOutcome, decodeOutcome}
 use Rattle.base32.specs.Causes.{encodeCauses, decodeCauses}
 
@@ -56,3 +59,11 @@ decode-settled characters capacity =
     (λ _. settle-first (length characters) (λ i. not (isCharacter lace (at characters i))) 7
     (λ _. settle-whole (not (isLawful (valuesOf lace characters))) 9 (not-iff (isLawful (valuesOf lace characters)))
     (λ _. settle-done (octetCount (length characters)))))
+
+-- an error's position is at most the number of characters
+pub decode-position : (characters : List ℕ) (capacity number position : ℕ) → decodeOutcome characters capacity ≡ refused number position → position ≤ length characters
+decode-position characters capacity number position e =
+    ⊎-elim (λ f. let z : position ≡ 0 = f .1 .0 in omega arith)
+    (λ f. ⊎-elim (λ g. let z : position < length characters = g .1 .inside in omega arith)
+    (λ g. ⊎-elim (λ k. let z : position ≡ 0 = k .1 .0 in omega arith) (λ k. absurd (k .1)) (g .1)) (f .1))
+    (decode-settled characters capacity .refuses number position .0 e)

@@ -14,7 +14,8 @@ use Rattle.basis.specs.Rows.{at, tabulate, AllBelow}
 use Rattle.basis.proofs.Tests.{by-lt, both-left, both-right, both-true, at-each}
 use Rattle.basis.proofs.Lists.{at-past, length-tabulate, tabulate-at, row-tabulate, tabulate-below, row-below}
 use Rattle.base32.specs.Bits.{rowBit, group, regroup}
-use Rattle.base32.specs.Base32.{quintetCount, octetCount, toQuintets, toOctets, lengthLawful, spareZero, isLawful}
+use Rattle.base32.specs.Form.{octetCount, lengthLawful, spareZero, isLawful}
+use Rattle.base32.specs.Base32.{quintetCount, toQuintets, toOctets}
 use Rattle.base32.proofs.Bits.{rowBit-lt, zero-bits, rowBit-past, regroup-lt, regroup-back, regroup-past}
 
 pub length-toQuintets : (os : List ℕ) → length (toQuintets os) ≡ quintetCount (length os)
@@ -61,7 +62,7 @@ spare-octet qs =
     (λ k h. rowBit-past 5 (length qs) (at qs) (omega arith) (at-past qs) (8 * m + k) (omega arith))
 
 -- no octet is left after the whole ones of quintets whose spare bits are zero
-octets-past : (qs : List ℕ) → spareZero qs ≡ true → (i : ℕ) → octetCount (length qs) ≤ i → regroup 5 8 (at qs) i ≡ 0
+pub octets-past : (qs : List ℕ) → spareZero qs ≡ true → (i : ℕ) → octetCount (length qs) ≤ i → regroup 5 8 (at qs) i ≡ 0
 octets-past qs s i h =
     by-lt (octetCount (length qs)) i
     (λ g. regroup-past 5 (length qs) (at qs) (omega arith) (at-past qs) 8 i (omega arith))
@@ -75,7 +76,7 @@ lawful-count n =
     let e : quintetCount n % 8 ≡ quintetCount (n % 5) % 8 = ap (λ (k : ℕ). k % 8) d ∙ mul-add-mod-self-left 8 (n / 5) (quintetCount (n % 5)) in
     rw e (at-each 5 (λ r. lengthLawful (quintetCount r)) refl (n % 5) (omega arith))
 
-count-lawful : (n : ℕ) → lengthLawful n ≡ true → quintetCount (octetCount n) ≡ n
+pub count-lawful : (n : ℕ) → lengthLawful n ≡ true → quintetCount (octetCount n) ≡ n
 unfolding lengthLawful every both
 count-lawful n l =
     let e : n % 8 % 8 ≡ n % 8 = omega arith in

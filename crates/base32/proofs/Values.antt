@@ -1,6 +1,6 @@
 -- Laws on rows of characters: their values, when all are quintets, and what the code writes one by one.
 use Prim.Native.Nat.{ℕ, _≤_, _<_}
-use mathlib.Core.Path.{_≡_}
+use mathlib.Core.Path.{_≡_, _∙_}
 use mathlib.Core.Bool.{not}
 use mathlib.Core.List.{List}
 use lib.ListN.{length, length-map}
@@ -11,8 +11,10 @@ use Rattle.basis.proofs.Tests.{first-le, first-before}
 use Rattle.basis.proofs.Lists.{at-map, map-tabulate}
 use Rattle.base32.specs.Alphabet.{characterOf, valueOf, isCharacter, valuesOf}
 use Rattle.base32.specs.Bits.{regroup}
-use Rattle.base32.specs.Base32.{quintetCount, octetCount, toQuintets, toOctets, charactersOf}
+use Rattle.base32.specs.Form.{octetCount}
+use Rattle.base32.specs.Base32.{quintetCount, toQuintets, toOctets, charactersOf}
 use Rattle.base32.specs.Answer.{firstOutside}
+use Rattle.base32.proofs.Regroup.{length-toQuintets}
 
 module _ (alphabet bytes : List ℕ) where
   pub length-values : length (valuesOf alphabet bytes) ≡ length bytes
@@ -44,3 +46,7 @@ module _ (alphabet bytes : List ℕ) where
 pub characters-tabulate : (alphabet os : List ℕ) (n : ℕ) → n ≡ quintetCount (length os) → charactersOf alphabet os ≡ tabulate n (λ i. characterOf alphabet (regroup 8 5 (at os) i))
 unfolding charactersOf toQuintets
 characters-tabulate alphabet os n e = rw (e, map-tabulate)
+
+pub length-charactersOf : (alphabet os : List ℕ) → length (charactersOf alphabet os) ≡ quintetCount (length os)
+unfolding charactersOf
+length-charactersOf alphabet os = length-map (toQuintets os) (characterOf alphabet) ∙ length-toQuintets os

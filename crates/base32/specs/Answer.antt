@@ -7,7 +7,8 @@ use lib.ListN.{length}
 use Rattle.basis.specs.Tests.{firstIn}
 use Rattle.basis.specs.Outcome.{Outcome, done, refusedIf}
 use Rattle.base32.specs.Alphabet.{lace, isCharacter, valuesOf}
-use Rattle.base32.specs.Base32.{quintetCount, octetCount, isLawful}
+use Rattle.base32.specs.Form.{octetCount, isLawful}
+use Rattle.base32.specs.Base32.{quintetCount}
 
 -- the index of the first byte that has no value, or the length
 unfoldable pub firstOutside : List ℕ → List ℕ → ℕ

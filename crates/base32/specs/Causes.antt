@@ -8,7 +8,8 @@ use Rattle.basis.specs.Tests.{IsFirst}
 use Rattle.basis.specs.Rows.{at}
 use Rattle.basis.specs.Causes.{Cause, whole, placed}
 use Rattle.base32.specs.Alphabet.{lace, isCharacter, valuesOf}
-use Rattle.base32.specs.Base32.{quintetCount, octetCount, isLawful}
+use Rattle.base32.specs.Form.{octetCount, isLawful}
+use Rattle.base32.specs.Base32.{quintetCount}
 
 -- 7: a byte that has no value, the first at index i
 abbrev pub OutsideAt : List ℕ → List ℕ → ℕ → Type 0

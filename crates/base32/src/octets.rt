@@ -6,7 +6,8 @@ ghost use lib.ListN.{length, drop};
 ghost use Rattle.basis.specs.Rows.{at};
 ghost use Rattle.base32.specs.Alphabet.{lace, valuesOf};
 ghost use Rattle.base32.specs.Bits.{regroup};
-ghost use Rattle.base32.specs.Base32.{octetCount, toOctets, lengthLawful, isLawful};
+ghost use Rattle.base32.specs.Form.{octetCount, lengthLawful, isLawful};
+ghost use Rattle.base32.specs.Base32.{toOctets};
 ghost use Rattle.base32.specs.Answer.{firstOutside};
 
 // How many whole octets so many quintets hold.

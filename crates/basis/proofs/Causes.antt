@@ -1,6 +1,6 @@
 -- Laws on causes: a row of causes settles the outcome that its tests give.
 use Prim.Native.Nat.{ℕ, _<_}
-use mathlib.Core.Path.{_≡_, refl, sym, ap₂, subst}
+use mathlib.Core.Path.{_≡_, refl, sym, ap, ap₂, _∙_, subst}
 use mathlib.Core.Bool.{Bool, true, false}
 use mathlib.Core.Logic.{_↔_, inl, inr}
 use mathlib.Core.List.{List, [], _∷_}
@@ -10,7 +10,7 @@ use native.Mathlib.Omega.{arith}
 use Rattle.basis.specs.Tests.{firstBelow, IsFirst}
 use Rattle.basis.specs.Outcome.{Outcome, done, refused, refusedIf}
 use Rattle.basis.specs.Causes.{Cause, whole, placed, Absent, FirstCause, Settles}
-use Rattle.basis.proofs.Tests.{true-not-false, first-le, first-is, first-at}
+use Rattle.basis.proofs.Tests.{cases, by-lt, true-not-false, first-le, first-is, first-at}
 
 done-not-refused : {n number position : ℕ} → done n ≡ refused number position → ⊥
 done-not-refused e = let z : _≡_ {A = ℕ} 0 1 = cc in omega arith
@@ -65,15 +65,36 @@ pub settle-whole : (test : Bool) (number : ℕ) {Stands : Type 0} {causes : List
     → Settles (whole number Stands ∷ causes) count (refusedIf test number 0 next)
 settle-whole test number {Stands} holds rest = settle-if test (whole number Stands) 0 (λ e. (refl, holds .0 e)) (λ p h. (holds .1 (h .1), h .0)) rest
 
--- a cause that stands at the first index at which a test holds
+-- a cause that stands exactly at the place of the first index at which a test holds
+pub settle-place : (n : ℕ) (test : ℕ → Bool) (c : Cause) (place : ℕ → ℕ) {causes : List Cause} {count : ℕ} {next : Outcome}
+    → ((i : ℕ) → IsFirst n test i → c .StandsAt (place i))
+    → ((p : ℕ) → c .StandsAt p → (i : ℕ) × (p ≡ place i) × IsFirst n test i)
+    → (firstBelow n test ≡ n → Settles causes count next)
+    → Settles (c ∷ causes) count (refusedIf (ltb (firstBelow n test) n) (c .number) (place (firstBelow n test)) next)
+settle-place n test c place stands only rest =
+    settle-if (ltb (firstBelow n test) n) c (place (firstBelow n test))
+    (λ e. stands (firstBelow n test) (first-is n test (ltb-true _ _ e)))
+    (λ p h. standing p (only p h))
+    (λ e. rest (let g = first-le n test in omega (arith, ltb-false (firstBelow n test) n e)))
+  where
+    standing : (p : ℕ) → (i : ℕ) × (p ≡ place i) × IsFirst n test i → (ltb (firstBelow n test) n ≡ true) × (p ≡ place (firstBelow n test))
+    standing p (i, q, f) =
+        let e = first-at n test i (f .inside) (f .here) (f .before) in
+        let h : i < n = f .inside in
+        (lt-ltb (firstBelow n test) n (omega arith), q ∙ ap place (sym e))
+
+-- the index itself
 pub settle-first : (n : ℕ) (test : ℕ → Bool) (number : ℕ) {causes : List Cause} {count : ℕ} {next : Outcome}
     → (firstBelow n test ≡ n → Settles causes count next)
     → Settles (placed number (IsFirst n test) ∷ causes) count (refusedIf (ltb (firstBelow n test) n) number (firstBelow n test) next)
-settle-first n test number rest =
-    settle-if (ltb (firstBelow n test) n) (placed number (IsFirst n test)) (firstBelow n test)
-    (λ e. first-is n test (ltb-true _ _ e))
-    (λ p h.
-    let e = first-at n test p (h .inside) (h .here) (h .before) in
-    let i : p < n = h .inside in
-    (lt-ltb (firstBelow n test) n (omega arith), sym e))
-    (λ e. rest (let g = first-le n test in omega (arith, ltb-false (firstBelow n test) n e)))
+settle-first n test number rest = settle-place n test (placed number (IsFirst n test)) (λ i. i) (λ i h. h) (λ p h. (p, refl, h)) rest
+
+-- where such a cause stands nowhere, its test fails
+pub absent-whole : (test : Bool) {Stands : Type 0} → (test ≡ true) ↔ Stands → ((position : ℕ) → (position ≡ 0) × Stands → ⊥) → test ≡ false
+absent-whole test holds absent = cases test (λ e. absurd (absent 0 (refl, holds .0 e))) (λ e. e)
+
+pub absent-first : (n : ℕ) (test : ℕ → Bool) → ((position : ℕ) → IsFirst n test position → ⊥) → firstBelow n test ≡ n
+absent-first n test absent =
+    by-lt (firstBelow n test) n
+    (λ h. absurd (absent (firstBelow n test) (first-is n test h)))
+    (λ h. let g = first-le n test in omega arith)

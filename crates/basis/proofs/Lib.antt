@@ -2,7 +2,8 @@
 pub mod Tests
 pub mod Lists
 pub mod Stores
+pub mod Parts
 pub mod Case
 pub mod Outcome
 pub mod Causes
-pub mod Demands
+pub mod Facts

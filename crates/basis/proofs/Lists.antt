@@ -2,13 +2,13 @@
 use Prim.Native.Nat.{ℕ, zero, suc, _+_, _≤_, _<_}
 use mathlib.Core.Path.{_≡_, refl, sym, ap, ap₂, _∙_}
 use mathlib.Core.List.{List, [], _∷_, _++_, map, append-assoc}
-use lib.ListN.{length, getD, drop, set, List·getD-eq-default}
-use lib.Seq.{drop-cons, set-at, sets, sets-eq}
+use lib.ListN.{length, getD, drop, set, length-append, List·getD-eq-default, List·getD-append}
+use lib.Seq.{getD-append-add, drop-cons, set-at, sets, sets-eq}
 use native.Mathlib.Nat.{le-of-suc-le-suc, zero-add}
 use native.Mathlib.Numerals.{add-one}
 use native.Mathlib.Omega.{arith}
 use Rattle.basis.specs.Rows.{at, tabulate, AllBelow}
-use Rattle.basis.proofs.Tests.{by-lt}
+use Rattle.basis.proofs.Tests.{by-lt, from-first}
 
 pub at-past : (xs : List ℕ) (i : ℕ) → length xs ≤ i → at xs i ≡ 0
 at-past xs i h = List·getD-eq-default xs 0 h
@@ -42,6 +42,22 @@ tabulate-below m n f h i g = rw (at-tabulate n f i (rw (length-tabulate n f) at 
 pub row-below : (m : ℕ) (xs : List ℕ) → 0 < m → AllBelow m xs → (i : ℕ) → at xs i < m
 row-below m xs p h i = by-lt i (length xs) (h i) (λ g. rw (at-past xs i g) p)
 
+-- a bound on every element, of longer and shorter lists
+pub below-none : (n : ℕ) → AllBelow n []
+below-none n i h = absurd (omega arith)
+
+pub below-more : (n x : ℕ) (xs : List ℕ) → x < n → AllBelow n xs → AllBelow n (x ∷ xs)
+below-more n x xs = from-first (λ i. at (x ∷ xs) i < n) (length xs)
+
+pub below-tail : (n x : ℕ) (xs : List ℕ) → AllBelow n (x ∷ xs) → AllBelow n xs
+below-tail n x xs b i h = b (suc i) (omega arith)
+
+pub below-left : (n : ℕ) (xs ys : List ℕ) → AllBelow n (xs ++ ys) → AllBelow n xs
+below-left n xs ys b i h = rw (List·getD-append xs ys 0 i h) at (b i (omega (arith, length-append xs ys)))
+
+pub below-right : (n : ℕ) (xs ys : List ℕ) → AllBelow n (xs ++ ys) → AllBelow n ys
+below-right n xs ys b i h = rw (getD-append-add xs ys i 0) at (b (length xs + i) (omega (arith, length-append xs ys)))
+
 tabulate-snoc : (n : ℕ) (f : ℕ → ℕ) → tabulate (suc n) f ≡ tabulate n f ++ (f n ∷ [])
 unfolding tabulate
 tabulate-snoc zero f = refl
@@ -56,6 +72,18 @@ map-tabulate g (suc n) f = ap (λ (l : List ℕ). g (f zero) ∷ l) (map-tabulat
 pub map-same : (f g : ℕ → ℕ) (xs : List ℕ) → ((i : ℕ) → i < length xs → f (at xs i) ≡ g (at xs i)) → map f xs ≡ map g xs
 map-same f g [] h = refl
 map-same f g (x ∷ xs) h = ap₂ _∷_ (h 0 (omega arith)) (map-same f g xs (λ i k. h (suc i) (omega arith)))
+
+-- a function after another that is a third on the elements
+pub map-after : (f g h : ℕ → ℕ) (xs : List ℕ) → ((i : ℕ) → i < length xs → f (g (at xs i)) ≡ h (at xs i)) → map f (map g xs) ≡ map h xs
+map-after f g h xs e = one xs ∙ map-same (λ x. f (g x)) h xs e
+  where
+    one : (xs : List ℕ) → map f (map g xs) ≡ map (λ x. f (g x)) xs
+    one [] = refl
+    one (x ∷ xs) = ap (λ (l : List ℕ). f (g x) ∷ l) (one xs)
+
+pub map-self : (xs : List ℕ) → map (λ x. x) xs ≡ xs
+map-self [] = refl
+map-self (x ∷ xs) = ap (λ (l : List ℕ). x ∷ l) (map-self xs)
 
 pub at-map : (f : ℕ → ℕ) (xs : List ℕ) (i : ℕ) → i < length xs → at (map f xs) i ≡ f (at xs i)
 at-map f [] i h = absurd (omega arith)

@@ -3,7 +3,7 @@ use Prim.Native.Nat.{ℕ, suc, _+_, _≤_}
 use mathlib.Core.Path.{_≡_, refl, sym, ap, _∙_}
 use mathlib.Core.List.{List, [], _∷_, _++_}
 use lib.ListN.{length, drop, set, length-append}
-use lib.Seq.{sets, length-sets}
+use lib.Seq.{set-comm, sets, length-sets}
 use native.Mathlib.Nat.{zero-add, add-zero, add-suc, suc-add}
 use native.Mathlib.Omega.{arith}
 use Rattle.basis.proofs.Lists.{sets-front}
@@ -11,6 +11,13 @@ use Rattle.basis.proofs.Lists.{sets-front}
 pub sets-append : (buffer : List ℕ) (at : ℕ) (piece rest : List ℕ) → sets buffer at (piece ++ rest) ≡ sets (sets buffer at piece) (at + length piece) rest
 sets-append buffer at [] rest = rw add-zero
 sets-append buffer at (x ∷ piece) rest = rw (add-suc, ← suc-add) (sets-append (set buffer at x) (suc at) piece rest)
+
+-- the last value may be stored before the others
+pub sets-last : (buffer : List ℕ) (at : ℕ) (piece : List ℕ) (x : ℕ) → sets buffer at (piece ++ (x ∷ [])) ≡ sets (set buffer (at + length piece) x) at piece
+sets-last buffer at [] x = rw add-zero
+sets-last buffer at (y ∷ piece) x =
+    let e : at + suc (length piece) ≡ suc at + length piece = omega arith in
+    sets-last (set buffer at y) (suc at) piece x ∙ rw (e, set-comm buffer (suc at + length piece) at x y (λ q. omega arith))
 
 -- of the values to be stored in the buffer old those left are still to be stored, in the buffer now, from index at on
 pub record Storing (old values now : List ℕ) (at : ℕ) (left : List ℕ) : Type 0 where

@@ -35,6 +35,13 @@ ltb-is m n b less more = by-lt m n (λ h. lt-ltb m n h ∙ sym (less h)) (λ h. 
 pub true-not-false : {b : Bool} → b ≡ true → b ≡ false → ⊥
 true-not-false e d = let z : _≡_ {A = ℕ} 0 1 = cc in omega arith
 
+-- a test fails exactly where what it tests does not hold
+pub fails-iff : (b : Bool) {A : Type 0} → (b ≡ true) ↔ A → (not b ≡ true) ↔ (A → ⊥)
+fails-iff b i = (
+  λ e a. true-not-false (i .1 a) (not-true b e),
+  λ n. cases b (λ e. absurd (n (i .0 e))) (λ e. ap not e),
+)
+
 pub both-left : (a b : Bool) → both a b ≡ true → a ≡ true
 unfolding both
 both-left true b e = refl
@@ -49,6 +56,11 @@ pub both-true : {a b : Bool} → a ≡ true → b ≡ true → both a b ≡ true
 unfolding both
 both-true {a = true} e d = d
 both-true {a = false} e d = e
+
+pub both-false : (b : Bool) → both b false ≡ false
+unfolding both
+both-false true = refl
+both-false false = refl
 
 -- a range and its bounds
 pub within-true : (low high x : ℕ) → low ≤ x → x ≤ high → within low high x ≡ true
@@ -86,6 +98,10 @@ pub each-at : (n : ℕ) (test : ℕ → Bool) → ((k : ℕ) → k < n → test 
 unfolding every
 each-at zero test h = refl
 each-at (suc n) test h = both-true (h zero (omega arith)) (each-at n (λ i. test (suc i)) (λ k g. h (suc k) (omega arith)))
+
+-- a test that fails at one number does not hold at every number
+pub not-each : (n : ℕ) (test : ℕ → Bool) (k : ℕ) → k < n → test k ≡ false → every n test ≡ false
+not-each n test k h e = cases (every n test) (λ t. absurd (true-not-false (at-each n test t k h) e)) (λ f. f)
 
 -- what holds of 0, and of each successor of a number below n, holds of each number below n + 1
 pub from-first : (P : ℕ → Type 0) (n : ℕ) → P 0 → ((k : ℕ) → k < n → P (suc k)) → (k : ℕ) → k < suc n → P k

@@ -1,5 +1,6 @@
 // The numbered errors that every entry answers with, and an answer in bytes. The shared definitions stand in specs/, the laws
 // on them in proofs/.
+ghost use mathlib.Core.Path.{_≡_};
 
 // The causes of refusal of the scope paper, in its order; `numberOf` of specs/Outcome.antt gives each its number.
 pub enum ErrorCode {
@@ -26,4 +27,11 @@ pub struct ByteCount(pub usize);
 pub enum BytesAnswer {
     Bytes(ByteCount),
     Error { code: ErrorCode, position: usize },
+}
+
+// The answer with an error.
+pub fn bytes_error(code: ErrorCode, position: usize) -> BytesAnswer
+    ensures { λ r. ⌜ r ≡ BytesAnswer.Error code position ⌝ }
+{
+    BytesAnswer::Error { code, position }
 }

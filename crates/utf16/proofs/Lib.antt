@@ -3,3 +3,4 @@ pub mod Surrogates
 pub mod RoundTrip
 pub mod Refusals
 pub mod Stores
+pub mod Ldh

@@ -11,7 +11,7 @@ use Rattle.basis.specs.Rows.{AllBelow}
 use Rattle.basis.proofs.Tests.{cases, by-lt, true-not-false, both-left, both-right, both-true, from-first, first-none, first-before}
 use Rattle.utf16.specs.Points.{isPoint, isText}
 use Rattle.utf16.specs.Units.{isHigh, isLow, highOf, lowOf, pairOf, toUnits, pointsAfter, toPoints, isUnpaired, unpairedAt, firstUnpaired}
-use Rattle.utf16.proofs.Surrogates.{units-small, units-big, point-high, point-low, point-plain, length-unitsOf, length-pointOf, zero-not-high, zero-not-low, high-not-low, point-top, point-not-high, point-not-low, plain-point, high-of, low-of, pair-of, pair-big, pair-high, pair-low, pair-point, unpaired-high, unpaired-low, unpaired-plain}
+use Rattle.utf16.proofs.Surrogates.{units-small, units-big, point-high, point-low, point-plain, some-unitsOf, length-unitsOf, length-pointOf, zero-not-high, zero-not-low, high-not-low, point-top, point-not-high, point-not-low, plain-point, high-of, low-of, pair-of, pair-big, pair-high, pair-low, pair-point, unpaired-high, unpaired-low, unpaired-plain}
 
 -- a text, its first point and the others
 text-head : (p : ℕ) (ps : List ℕ) → isText (p ∷ ps) ≡ true → isPoint p ≡ true
@@ -136,7 +136,12 @@ module _ (us : List ℕ) (b : AllBelow 0x10000 us) (e : firstUnpaired us ≡ len
   pub units-text : isText (toPoints us) ≡ true
   units-text = back .1
 
--- there are at most twice as many units as points, and at most as many points as units
+-- there are at least as many units as points and at most twice as many, and at most as many points as units
+pub some-toUnits : (ps : List ℕ) → length ps ≤ length (toUnits ps)
+unfolding toUnits
+some-toUnits [] = omega arith
+some-toUnits (p ∷ ps) = omega (arith, some-unitsOf p (toUnits ps), some-toUnits ps)
+
 pub length-toUnits : (ps : List ℕ) → length (toUnits ps) ≤ 2 * length ps
 unfolding toUnits
 length-toUnits [] = omega arith

@@ -131,7 +131,10 @@ pub point-plain : (before u : ℕ) (rest : List ℕ) → isHigh u ≡ false → 
 unfolding pointOf
 point-plain before u rest h l = rw (h, l)
 
--- a point has at most two units, a unit ends at most one point
+-- a point has one unit or two, a unit ends at most one point
+pub some-unitsOf : (p : ℕ) (rest : List ℕ) → 1 + length rest ≤ length (unitsOf p rest)
+some-unitsOf p rest = by-lt p 0x10000 (λ h. rw (units-small p rest h) (omega arith)) (λ h. rw (units-big p rest h) (omega arith))
+
 pub length-unitsOf : (p : ℕ) (rest : List ℕ) → length (unitsOf p rest) ≤ 2 + length rest
 length-unitsOf p rest = by-lt p 0x10000 (λ h. rw (units-small p rest h) (omega arith)) (λ h. rw (units-big p rest h) (omega arith))
 

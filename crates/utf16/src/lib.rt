@@ -1,6 +1,6 @@
 // The converter between points and UTF-16 units, with a count of each in a type of its own.
 pub mod points;
-mod units;
+pub mod units;
 
 use basis::ErrorCode;
 ghost use mathlib.Core.Path.{_≡_};
@@ -25,6 +25,13 @@ pub enum UnitsAnswer {
 pub enum PointsAnswer {
     Points(PointCount),
     Error { code: ErrorCode, position: usize },
+}
+
+// The answer in points with an error.
+pub fn points_error(code: ErrorCode, position: usize) -> PointsAnswer
+    ensures { λ r. ⌜ r ≡ PointsAnswer.Error code position ⌝ }
+{
+    PointsAnswer::Error { code, position }
 }
 
 // Writes the units of the first `count` points.

@@ -49,7 +49,7 @@ fn unit_at(units: &[u16], i: usize) -> u16
 }
 
 // The index of the first unpaired surrogate, or the length.
-pub(crate) fn first_unpaired(units: &[u16]) -> usize
+pub fn first_unpaired(units: &[u16]) -> usize
     ensures { λ r. ⌜ r ≡ firstUnpaired (now (units .entry)) ⌝ }
 {
     let mut before = 0;

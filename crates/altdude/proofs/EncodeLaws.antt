@@ -1,0 +1,190 @@
+-- What writing a label needs: lengths and stores of groups, items and labels, the turns of the loops, and the returns of `encode`.
+use mathlib.Core.Path.{_≡_, refl, sym, ap, _∙_}
+use mathlib.Core.Bool.{Bool, true, false}
+use mathlib.Core.List.{List, [], _∷_, _++_, map, append-assoc, map-append}
+use Prim.Native.Nat.{ℕ, zero, suc, _+_, _-_, _*_, _/_, _%_, _^_, _<_, _≤_, min}
+use native.Mathlib.Numerals.{add-one}
+use native.Mathlib.Omega.{arith}
+use lib.Bits.{bitXor}
+use lib.Dec.{eqb, ltb}
+use lib.ListN.{length, set, drop, length-append, length-map, drop-of-length-le}
+use lib.Seq.{sets, drop-cons}
+use borrow.Author.Tests.{eq-eqb, ne-eqb, lt-ltb, le-ltb}
+use Rattle.basis.specs.Rows.{at}
+use Rattle.basis.specs.Outcome.{Outcome, done, refused, refusedIf, bufferAfter}
+use Rattle.basis.proofs.Tests.{cases, by-lt}
+use Rattle.basis.proofs.Lists.{sets-front}
+use Rattle.basis.proofs.Stores.{sets-append, sets-last}
+use Rattle.basis.proofs.Outcome.{refused-leaves, done-leaves}
+use Rattle.utf16.specs.Points.{firstNotPoint}
+use Rattle.altdude.specs.Symbols.{byteOf, hasEdgeHyphen}
+use Rattle.altdude.specs.Encoding.{leadingDigits, groupOf, itemOf, rememberedAfter, symbolsFrom, labelOf}
+use Rattle.altdude.specs.Answer.{encodeOutcome}
+use Rattle.altdude.proofs.Digits.{digits-step, digits-none}
+
+-- what stands before the rest does not depend on it
+digits-append : (f x : ℕ) (rest : List ℕ) → leadingDigits f x rest ≡ leadingDigits f x [] ++ rest
+unfolding leadingDigits
+digits-append zero x rest = refl
+digits-append (suc f) zero rest = refl
+digits-append (suc f) (suc x) rest =
+    let d = 16 + suc x % 16 in
+    rw (digits-append f (suc x / 16) (d ∷ rest), digits-append f (suc x / 16) (d ∷ []), append-assoc)
+
+group-append : (x : ℕ) (rest : List ℕ) → groupOf x rest ≡ groupOf x [] ++ rest
+unfolding groupOf
+group-append x rest = rw (digits-append (x / 16) (x / 16) (x % 16 ∷ rest), digits-append (x / 16) (x / 16) (x % 16 ∷ []), append-assoc)
+
+item-append : (m p : ℕ) (rest : List ℕ) → itemOf m p rest ≡ itemOf m p [] ++ rest
+unfolding itemOf
+item-append m p rest = cases (eqb p 45) (λ e. rw e) (λ e. rw e (group-append (bitXor p m) rest))
+
+-- the digits one by one, the last first
+digits-more : (y : ℕ) → 0 < y → leadingDigits y y [] ≡ leadingDigits (y / 16) (y / 16) [] ++ ((16 + y % 16) ∷ [])
+digits-more y h =
+    let e : y / 16 * 16 + y % 16 ≡ y = omega arith in
+    rw e at (digits-step (y / 16) (y % 16) [] (omega arith) (λ q. omega arith)) ∙ digits-append (y / 16) (y / 16) ((16 + y % 16) ∷ [])
+
+pub digits-length : (y : ℕ) → 0 < y → length (leadingDigits y y []) ≡ length (leadingDigits (y / 16) (y / 16) []) + 1
+digits-length y h = rw (digits-more y h, length-append)
+
+pub group-length : (x : ℕ) → length (groupOf x []) ≡ length (leadingDigits (x / 16) (x / 16) []) + 1
+unfolding groupOf
+group-length x = rw (digits-append (x / 16) (x / 16) (x % 16 ∷ []), length-append)
+
+-- a number below 16 ^ k has at most k digits
+digits-few : (k y : ℕ) → y < 16 ^ k → length (leadingDigits y y []) ≤ k
+digits-few zero y h = omega (arith, ap length (digits-none y [] (omega arith)))
+digits-few (suc k) y h =
+    by-lt 0 y
+    (λ p. omega (arith, digits-length y p, digits-few k (y / 16) (omega arith)))
+    (λ p. omega (arith, ap length (digits-none y [] (omega arith))))
+
+pub group-short : (x : ℕ) → x < 2 ^ 32 → length (groupOf x []) ≤ 8
+group-short x h = omega (arith, group-length x, digits-few 7 (x / 16) (omega arith))
+
+-- an item is a hyphen or a group
+item-hyphen : (m p : ℕ) → p ≡ 45 → itemOf m p [] ≡ 45 ∷ []
+unfolding itemOf
+item-hyphen m p e = rw (eq-eqb p 45 e)
+
+pub item-group : (m p : ℕ) → (p ≡ 45 → ⊥) → itemOf m p [] ≡ groupOf (bitXor p m) []
+unfolding itemOf
+item-group m p n = rw (ne-eqb p 45 n)
+
+-- the symbols from a point on are its item and the symbols after it
+module _ (t : List ℕ) (m m′ i : ℕ) (inside : i < length t) (next : m′ ≡ rememberedAfter m (at t i)) where
+  symbols-turn : symbolsFrom m (drop i t) ≡ itemOf m (at t i) [] ++ symbolsFrom m′ (drop (i + 1) t)
+  unfolding symbolsFrom
+  symbols-turn = rw (next, drop-cons t i 0, add-one) (item-append m (at t i) _)
+
+  length-turn : length (symbolsFrom m (drop i t)) ≡ length (itemOf m (at t i) []) + length (symbolsFrom m′ (drop (i + 1) t))
+  length-turn = rw (symbols-turn, length-append)
+
+  -- a count of the symbols up to the point, and the same up to the next
+  pub count-turn : (all n n′ : ℕ) → all ≡ n + length (symbolsFrom m (drop i t)) → n′ ≡ n + length (itemOf m (at t i) []) → all ≡ n′ + length (symbolsFrom m′ (drop (i + 1) t))
+  count-turn all n n′ inv e = omega (arith, length-turn)
+
+  -- the item stored, and what is left to store
+  pub store-turn : (label label′ all : List ℕ) (k k′ : ℕ) → sets label k (map byteOf (symbolsFrom m (drop i t))) ≡ all
+      → k′ ≡ k + length (itemOf m (at t i) []) → label′ ≡ sets label k (map byteOf (itemOf m (at t i) []))
+      → sets label′ k′ (map byteOf (symbolsFrom m′ (drop (i + 1) t))) ≡ all
+  store-turn label label′ all k k′ inv ek el = rw (ek, el) (rw (symbols-turn, map-append, sets-append, length-map) at inv)
+
+-- the item of a point has its place among all symbols
+pub item-within : (t : List ℕ) (m i : ℕ) → i < length t → (all n : ℕ) → all ≡ n + length (symbolsFrom m (drop i t)) → n + length (itemOf m (at t i) []) ≤ all
+item-within t m i inside all n inv = omega (arith, length-turn t m _ i inside refl)
+
+-- at the end nothing is left
+module _ (t : List ℕ) (m i : ℕ) (past : length t ≤ i) where
+  symbols-end : symbolsFrom m (drop i t) ≡ []
+  unfolding symbolsFrom
+  symbols-end = rw drop-of-length-le
+
+  pub count-end : (all n : ℕ) → all ≡ n + length (symbolsFrom m (drop i t)) → n ≡ all
+  count-end all n inv = omega (arith, ap length symbols-end)
+
+  pub store-end : (label all : List ℕ) (k : ℕ) → sets label k (map byteOf (symbolsFrom m (drop i t))) ≡ all → label ≡ all
+  store-end label all k inv = rw symbols-end at inv
+
+-- the last symbol is stored first, then those before it
+put-last : (label : List ℕ) (k j r d : ℕ) (a whole : List ℕ) → whole ≡ a ++ (d ∷ []) → r ≡ byteOf d → j ≡ k + length a
+    → sets (set label j r) k (map byteOf a) ≡ sets label k (map byteOf whole)
+put-last label k j r d a whole e q p = rw (e, q, p, map-append, sets-last, length-map)
+
+pub put-low : (label : List ℕ) (k x n r : ℕ) → n ≡ length (groupOf x []) → r ≡ byteOf (x % 16)
+    → sets (set label (k + n - 1) r) k (map byteOf (leadingDigits (x / 16) (x / 16) [])) ≡ sets label k (map byteOf (groupOf x []))
+unfolding groupOf
+put-low label k x n r e q =
+    put-last label k (k + n - 1) r (x % 16) (leadingDigits (x / 16) (x / 16) []) _ (digits-append (x / 16) (x / 16) (x % 16 ∷ [])) q (omega (arith, group-length x))
+
+pub put-high : (label : List ℕ) (k y j r : ℕ) → 0 < y → j ≡ k + length (leadingDigits y y []) → r ≡ byteOf (16 + y % 16)
+    → sets (set label (j - 1) r) k (map byteOf (leadingDigits (y / 16) (y / 16) [])) ≡ sets label k (map byteOf (leadingDigits y y []))
+put-high label k y j r h e q =
+    put-last label k (j - 1) r (16 + y % 16) (leadingDigits (y / 16) (y / 16) []) _ (digits-more y h) q (omega (arith, digits-length y h))
+
+pub put-none : (label : List ℕ) (k y : ℕ) → y ≡ 0 → sets label k (map byteOf (leadingDigits y y [])) ≡ label
+put-none label k y e = rw (digits-none y [] e)
+
+-- the item of a hyphen
+module _ (m p : ℕ) (hyphen : p ≡ 45) where
+  pub hyphen-length : length (itemOf m p []) ≡ 1
+  hyphen-length = ap length (item-hyphen m p hyphen)
+
+  pub put-hyphen : (label : List ℕ) (k : ℕ) → set label k 45 ≡ sets label k (map byteOf (itemOf m p []))
+  unfolding byteOf
+  put-hyphen label k = rw (item-hyphen m p hyphen)
+
+-- the returns of `encode`: the answer and the buffer, from the tests passed so far
+module _ (label t : List ℕ) where
+  abbrev Answered : Outcome → List ℕ → Type 0
+  Answered answer now =
+      (answer ≡ encodeOutcome (length label) t) × (now ≡ bufferAfter (encodeOutcome (length label) t) (labelOf t) label)
+
+  refuses : (answer : Outcome) (number position : ℕ) → answer ≡ refused number position → encodeOutcome (length label) t ≡ refused number position → Answered answer label
+  refuses answer number position a o =
+      let r = refused-leaves (encodeOutcome (length label) t) (labelOf t) label number position o in
+      (a ∙ r .0, r .1)
+
+  pub encode-1 : length label < 63 → (answer : Outcome) → answer ≡ refused 1 0 → Answered answer label
+  unfolding encodeOutcome refusedIf
+  encode-1 h answer e = refuses answer 1 0 e (simp (lt-ltb (length label) 63 h))
+
+  module _ (fits : 63 ≤ length label) where
+    pub encode-2 : length t ≡ 0 → (answer : Outcome) → answer ≡ refused 2 0 → Answered answer label
+    unfolding encodeOutcome refusedIf
+    encode-2 h answer e = refuses answer 2 0 e (simp (le-ltb (length label) 63 fits, eq-eqb (length t) 0 h))
+
+    module _ (some : length t ≡ 0 → ⊥) (k : ℕ) (first : k ≡ firstNotPoint t) where
+      pub encode-4 : k < length t → (answer : Outcome) → answer ≡ refused 4 k → Answered answer label
+      unfolding encodeOutcome refusedIf
+      encode-4 h answer e =
+          refuses answer 4 k e
+          (rw (← first) (simp (le-ltb (length label) 63 fits, ne-eqb (length t) 0 some, lt-ltb k (length t) h)))
+
+      module _ (points : length t ≤ k) (edge : Bool) (edges : edge ≡ hasEdgeHyphen t) where
+        pub encode-5 : edge ≡ true → (answer : Outcome) → answer ≡ refused 5 0 → Answered answer label
+        unfolding encodeOutcome refusedIf
+        encode-5 h answer e =
+            refuses answer 5 0 e
+            (rw (← first, ← edges) (simp (le-ltb (length label) 63 fits, ne-eqb (length t) 0 some, le-ltb k (length t) points, h)))
+
+        module _ (inner : edge ≡ false) (n : ℕ) (count : n ≡ min 64 (length (symbolsFrom 96 t))) where
+          label-length : length (labelOf t) ≡ length (symbolsFrom 96 t)
+          unfolding labelOf
+          label-length = length-map (symbolsFrom 96 t) byteOf
+
+          last-test : encodeOutcome (length label) t ≡ refusedIf (ltb 63 (length (labelOf t))) 3 0 (done (length (labelOf t)))
+          unfolding encodeOutcome refusedIf
+          last-test = rw (← first, ← edges) (simp (le-ltb (length label) 63 fits, ne-eqb (length t) 0 some, le-ltb k (length t) points, inner))
+
+          pub encode-3 : 63 < n → (answer : Outcome) → answer ≡ refused 3 0 → Answered answer label
+          unfolding refusedIf
+          encode-3 h answer e = refuses answer 3 0 e (last-test ∙ rw (lt-ltb 63 (length (labelOf t)) (omega (arith, label-length))))
+
+          pub encode-done : n ≤ 63 → (r : ℕ) (now : List ℕ) → r ≡ length (symbolsFrom 96 t) → now ≡ sets label 0 (map byteOf (symbolsFrom 96 t)) → Answered (done r) now
+          unfolding refusedIf labelOf
+          encode-done h r now er en =
+              done-leaves (encodeOutcome (length label) t) (labelOf t) label now r
+              (last-test ∙ rw (le-ltb 63 (length (labelOf t)) (omega (arith, label-length))) (ap done (label-length ∙ sym er)))
+              (en ∙ sets-front (labelOf t) label (omega (arith, label-length)) ∙ ap (λ (n : ℕ). labelOf t ++ drop n label) (label-length ∙ sym er))

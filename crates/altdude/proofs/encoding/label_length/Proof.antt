@@ -1,0 +1,74 @@
+-- `encoding::label_length` meets its contract: n symbols are counted, those of the points from i on are left.
+use Prim.Native.Nat.{_+_, _-_, _≤_}
+use mathlib.Core.Path.{_≡_}
+use native.Mathlib.Omega.{arith}
+use lib.ListN.{length, drop}
+use borrow.Author.Needs.{needs}
+use Rattle.altdude.specs.Encoding.{symbolsFrom}
+use Rattle.altdude.proofs.EncodeLaws.{item-within, count-turn, count-end}
+use Rattle.altdude.proofs.encoding.label_length.Statement.{statement}
+use Rattle.altdude.proofs.encoding.label_length.Tie as tie
+
+abbrev Inv-loop : tie.InvT-loop
+Inv-loop text n₀ remembered₀ i₀ n remembered i = (length (symbolsFrom 96 text) ≡ n + length (symbolsFrom remembered (drop i text))) × (n ≤ 63) × (i ≤ length text)
+
+abbrev μ-loop : tie.MeasureT-loop
+μ-loop text n₀ remembered₀ i₀ n remembered i = length text - i
+
+loop-holds : tie.Need-loop-holds Inv-loop μ-loop
+loop-holds c = (search needs, omega arith, omega arith)
+
+mul-point : tie.Need-mul-point Inv-loop μ-loop
+mul-point c = search needs
+
+shared-slice-read-point : tie.Need-shared-slice-read-point Inv-loop μ-loop
+shared-slice-read-point c = search needs
+
+item-length-requires : tie.Need-item-length-requires Inv-loop μ-loop
+item-length-requires c κs = search needs
+
+add-n : tie.Need-add-n Inv-loop μ-loop
+add-n c = search needs
+
+returns : tie.Need-returns Inv-loop μ-loop
+returns c =
+    let l = c .before .before .before .before in
+    omega (arith, item-within _ _ _ (c .before .before .before .loop-test .taken) _ _ (l .loop .inv .0))
+
+remembered-after-requires : tie.Need-remembered-after-requires Inv-loop μ-loop
+remembered-after-requires c κs = search needs
+
+add-i : tie.Need-add-i Inv-loop μ-loop
+add-i c = search needs
+
+loop-less : tie.Need-loop-less Inv-loop μ-loop
+loop-less c = search needs
+
+loop-again : tie.Need-loop-again Inv-loop μ-loop
+loop-again c =
+    let l = c .before .before .before .before .before in (
+      count-turn _ _ _ _ (c .before .before .before .before .loop-test .taken) (c .remembered-after .ensures) _ _ _ (l .loop .inv .0) (rw (c .before .before .item-length .ensures .0)),
+      omega arith,
+      omega arith,
+    )
+
+returns-2 : tie.Need-returns-2 Inv-loop μ-loop
+returns-2 c = omega (arith, count-end _ _ _ (c .loop-test .left) _ _ (c .before .loop .inv .0))
+
+pub label-length-spec : {M : Type 1} → statement M
+label-length-spec =
+    tie.close
+    (tie.spec
+    Inv-loop
+    μ-loop
+    loop-holds
+    mul-point
+    shared-slice-read-point
+    item-length-requires
+    add-n
+    returns
+    remembered-after-requires
+    add-i
+    loop-less
+    loop-again
+    returns-2)

@@ -1,0 +1,68 @@
+// AltDUDE: encoding a text as a label, and decoding a label.
+mod decoding;
+mod encoding;
+mod symbols;
+
+use basis::ByteCount;
+use basis::BytesAnswer;
+use basis::ErrorCode;
+use utf16::PointCount;
+use utf16::PointsAnswer;
+ghost use mathlib.Core.Path.{_≡_};
+ghost use lib.ListN.{length};
+ghost use Rattle.basis.specs.Outcome.{bytesOutcome, bufferAfter};
+ghost use Rattle.utf16.specs.Answer.{pointsOutcome};
+ghost use Rattle.altdude.specs.Encoding.{labelOf};
+ghost use Rattle.altdude.specs.Decoding.{textOf};
+ghost use Rattle.altdude.specs.Answer.{encodeOutcome, decodeOutcome};
+
+// Writes the label of a text.
+pub fn encode(text: &[u32], label: &mut [u8]) -> BytesAnswer
+    ensures { λ r. ⌜ bytesOutcome r ≡ encodeOutcome (length (now (label .entry))) (now (text .entry)) ⌝ }
+    ensures { λ _. ⌜ now (label .exit) ≡ bufferAfter (encodeOutcome (length (now (label .entry))) (now (text .entry))) (labelOf (now (text .entry))) (now (label .entry)) ⌝ }
+{
+    if label.len() < 63 {
+        return basis::bytes_error(ErrorCode::Capacity, 0);
+    }
+    if text.len() == 0 {
+        return basis::bytes_error(ErrorCode::Empty, 0);
+    }
+    let bad = utf16::points::first_not_point(text);
+    if bad < text.len() {
+        return basis::bytes_error(ErrorCode::NotAPoint, bad);
+    }
+    if symbols::text_has_edge_hyphen(text) {
+        return basis::bytes_error(ErrorCode::EdgeHyphen, 0);
+    }
+    if 63 < encoding::label_length(text) {
+        return basis::bytes_error(ErrorCode::TooLong, 0);
+    }
+    BytesAnswer::Bytes(ByteCount(encoding::put_label(text, label)))
+}
+
+// Reads the text of a label.
+pub fn decode(label: &[u8], text: &mut [u32]) -> PointsAnswer
+    ensures { λ r. ⌜ pointsOutcome r ≡ decodeOutcome (length (now (text .entry))) (now (label .entry)) ⌝ }
+    ensures { λ _. ⌜ now (text .exit) ≡ bufferAfter (decodeOutcome (length (now (text .entry))) (now (label .entry))) (textOf (now (label .entry))) (now (text .entry)) ⌝ }
+{
+    if text.len() < 63 {
+        return utf16::points_error(ErrorCode::Capacity, 0);
+    }
+    if label.len() == 0 {
+        return utf16::points_error(ErrorCode::Empty, 0);
+    }
+    if 63 < label.len() {
+        return utf16::points_error(ErrorCode::TooLong, 0);
+    }
+    let bad = symbols::first_outside(label);
+    if bad < label.len() {
+        return utf16::points_error(ErrorCode::OutsideAlphabet, bad);
+    }
+    if symbols::label_has_edge_hyphen(label) {
+        return utf16::points_error(ErrorCode::EdgeHyphen, 0);
+    }
+    if !decoding::is_readable(label) {
+        return utf16::points_error(ErrorCode::NotWellFormed, 0);
+    }
+    PointsAnswer::Points(PointCount(decoding::put_text(label, text)))
+}

@@ -1,0 +1,3 @@
+-- The demands as named statements, and the table of known labels.
+pub mod Demands
+pub mod KnownLabels

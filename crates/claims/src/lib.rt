@@ -1,0 +1,1 @@
+// The claims: theorems only, in proofs/, over the definitions that the contracts cite.

@@ -1,0 +1,272 @@
+-- What writing a label needs: the turns of the loops, the octets and the label put together, and the returns of `encode`.
+use Prim.Native.Nat.{ℕ, suc, _+_, _-_, _*_, _/_, _%_, _≤_, _<_}
+use mathlib.Core.Path.{_≡_, refl, sym, ap, _∙_}
+use mathlib.Core.Bool.{Bool, true, false}
+use mathlib.Core.List.{List, [], _∷_, _++_, append-assoc}
+use lib.Dec.{eqb}
+use lib.ListN.{length, take, drop, set, length-drop, drop-of-length-le}
+use lib.Seq.{sets, take-length, drop-cons, drop-drop}
+use borrow.Author.Tests.{eq-eqb, ne-eqb, le-leb, lt-leb, lt-ltb, le-ltb}
+use native.Mathlib.Numerals.{add-one}
+use native.Mathlib.Omega.{arith}
+use Rattle.basis.specs.Rows.{at, AllBelow}
+use Rattle.basis.specs.Outcome.{Outcome, done, refused, refusedIf, bufferAfter}
+use Rattle.basis.proofs.Tests.{cases, by-lt}
+use Rattle.basis.proofs.Lists.{sets-front}
+use Rattle.basis.proofs.Stores.{Storing, storing-more, storing-none}
+use Rattle.basis.proofs.Parts.{lent-is, lent-back, front-is, front-fits, front-long}
+use Rattle.basis.proofs.Outcome.{refusal-leaves, done-leaves, done-not-refused, done-count}
+use Rattle.utf16.specs.Points.{firstNotPoint}
+use Rattle.utf16.specs.Units.{toUnits}
+use Rattle.utf16.specs.Answer.{toUnitsOutcome}
+use Rattle.utf16.proofs.Refusals.{all-done}
+use Rattle.utf16.proofs.RoundTrip.{some-toUnits}
+use Rattle.base32.specs.Alphabet.{lace}
+use Rattle.base32.specs.Base32.{quintetCount, charactersOf}
+use Rattle.base32.specs.Answer as base32
+use Rattle.base32.proofs.Values.{length-charactersOf}
+use Rattle.base32.proofs.Outcomes.{encode-done}
+use Rattle.lace.specs.Prefix.{prefix}
+use Rattle.lace.specs.Octets.{unitOctets, runCount, isAllLdh}
+use Rattle.lace.specs.Encoding.{octetsOf, labelOf}
+use Rattle.lace.specs.Stepping.{sameHigh, runStep, runSteps, unitsOutcome}
+use Rattle.lace.specs.Answer.{encodeOutcome}
+use Rattle.lace.proofs.Runs.{runs-count, runs-steps, length-unitOctets, units-few}
+
+-- the units of one high octet from index i on: one more, another, none left
+module _ (high : ℕ) (us : List ℕ) (i n all : ℕ) (inv : all ≡ n + sameHigh high (drop i us)) where
+  pub high-more : i < length us → at us i / 256 ≡ high → all ≡ n + 1 + sameHigh high (drop (i + 1) us)
+  unfolding sameHigh
+  high-more h e =
+      let d : sameHigh high (drop i us) ≡ suc (sameHigh high (drop (i + 1) us)) = rw (drop-cons us i 0, add-one, eq-eqb (at us i / 256) high e) in
+      omega arith
+
+  pub high-other : i < length us → (at us i / 256 ≡ high → ⊥) → n ≡ all
+  unfolding sameHigh
+  high-other h q =
+      let d : sameHigh high (drop i us) ≡ 0 = rw (drop-cons us i 0, ne-eqb (at us i / 256) high q) in
+      omega arith
+
+  pub high-end : length us ≤ i → n ≡ all
+  unfolding sameHigh
+  high-end h = omega (arith, ap (sameHigh high) (drop-of-length-le us h))
+
+-- the octets that the unit at index i adds, stored from index k on, and the index after them
+module _ (us : List ℕ) (i before : ℕ) (inside : i < length us) (octets : List ℕ) (k : ℕ) where
+  abbrev step : List ℕ
+  step = runStep before (drop i us)
+
+  pub put-low : at us i / 256 ≡ before → (k + 1 ≡ k + length step) × (set octets k (at us i % 256) ≡ sets octets k step)
+  unfolding runStep
+  put-low e = rw (drop-cons us i 0, eq-eqb (at us i / 256) before e) (refl, refl)
+
+  pub put-start : (at us i / 256 ≡ before → ⊥) → (n : ℕ) → n ≡ sameHigh (at us i / 256) (drop i us)
+      → (k + 3 ≡ k + length step) × (set (set (set octets k n) (k + 1) (at us i / 256)) (k + 2) (at us i % 256) ≡ sets octets k step)
+  unfolding runStep sameHigh
+  put-start q n e =
+      let d : n ≡ suc (sameHigh (at us i / 256) (drop (suc i) us)) = e ∙ rw (drop-cons us i 0, eq-eqb (at us i / 256) (at us i / 256) refl) in
+      let j : k + 2 ≡ suc (suc k) = omega arith in
+      rw (drop-cons us i 0, ne-eqb (at us i / 256) before q, d, j, add-one) (refl, refl)
+
+  pub step-few : length step ≤ 3
+  unfolding runStep
+  step-few = rw (drop-cons us i 0) (cases (eqb (at us i / 256) before) (λ e. rw e (omega arith)) (λ e. rw e (omega arith)))
+
+-- the octets of the runs from index i on: those of one unit are stored, or none are left
+module _ (old us now : List ℕ) (before k i : ℕ) (s : Storing old (runSteps 256 us) now k (runSteps before (drop i us))) where
+  pub runs-turn : i < length us → (more : List ℕ) (next : ℕ) → more ≡ sets now k (runStep before (drop i us)) → next ≡ k + length (runStep before (drop i us))
+      → Storing old (runSteps 256 us) more next (runSteps (at us i / 256) (drop (i + 1) us))
+  unfolding runSteps
+  runs-turn h more next m n = storing-more _ _ _ _ _ s (runStep before (drop i us)) _ (rw (drop-cons us i 0, add-one)) more next m n
+
+  pub runs-end : length us ≤ i → k ≤ length old → (k ≡ length (runSteps 256 us)) × (now ≡ runSteps 256 us ++ drop (length (runSteps 256 us)) old)
+  unfolding runSteps
+  runs-end h l =
+      let e : runSteps before (drop i us) ≡ [] = rw (drop-of-length-le us h) in
+      storing-none _ _ _ _ _ s e (omega (arith, s .count, ap length e))
+
+-- all units from index i on: one is stored, or none is left
+module _ (us now all : List ℕ) (i : ℕ) (inv : sets now (2 * i + 1) (unitOctets (drop i us)) ≡ all) where
+  pub all-turn : i < length us → sets (set (set now (2 * i + 1) (at us i / 256)) (2 * i + 2) (at us i % 256)) (2 * (i + 1) + 1) (unitOctets (drop (i + 1) us)) ≡ all
+  unfolding unitOctets
+  all-turn h =
+      let a : 2 * (i + 1) + 1 ≡ suc (suc (2 * i + 1)) = omega arith in
+      let b : 2 * i + 2 ≡ suc (2 * i + 1) = omega arith in
+      rw (a, b, add-one i) (rw (drop-cons us i 0 h) at inv)
+
+  pub all-end : length us ≤ i → now ≡ all
+  unfolding unitOctets
+  all-end h = rw (drop-of-length-le us h) at inv
+
+-- all of them, after FF
+pub all-stored : (us now old : List ℕ) → 2 * length us + 1 ≤ length old → now ≡ sets old 0 (0xff ∷ unitOctets us)
+    → now ≡ (0xff ∷ unitOctets us) ++ drop (2 * length us + 1) old
+all-stored us now old h e =
+    let n : length (0xff ∷ unitOctets us) ≡ 2 * length us + 1 = omega (arith, length-unitOctets us) in
+    e ∙ sets-front (0xff ∷ unitOctets us) old (omega arith) ∙ ap (λ (k : ℕ). (0xff ∷ unitOctets us) ++ drop k old) n
+
+-- the octets of units are those of their runs, or FF and all units
+module _ (us : List ℕ) (r : ℕ) (count : r ≡ runCount us) (n : ℕ) (now old : List ℕ) where
+  abbrev Put : List ℕ → Type 0
+  Put values = (n ≡ length values) × (now ≡ values ++ drop (length values) old)
+
+  pub octets-runs : AllBelow 0x10000 us → 2 * r + length us ≤ 2 * length us → Put (runSteps 256 us) → Put (octetsOf us)
+  unfolding octetsOf
+  octets-runs b h p =
+      let e : runSteps 256 us ≡ octetsOf us = runs-steps us b ∙ rw (runs-count, ← count, le-leb (2 * r + length us) (2 * length us) h) in
+      rw (← e) p
+
+  pub octets-all : 2 * length us < 2 * r + length us → n ≡ 2 * length us + 1 → now ≡ (0xff ∷ unitOctets us) ++ drop (2 * length us + 1) old → Put (octetsOf us)
+  unfolding octetsOf
+  octets-all h p q =
+      let e : 0xff ∷ unitOctets us ≡ octetsOf us = rw (runs-count, ← count, lt-leb (2 * r + length us) (2 * length us) h) in
+      let l : 2 * length us + 1 ≡ length (0xff ∷ unitOctets us) = omega (arith, length-unitOctets us) in
+      rw (← e) (p ∙ l, q ∙ ap (λ (k : ℕ). (0xff ∷ unitOctets us) ++ drop k old) l)
+
+-- the label put together: now is the label after the prefix was stored, whose rest is lent to the Base32 writer
+module _ (octets label now : List ℕ) (fits : 4 + quintetCount (length octets) ≤ length label) (begun : now ≡ prefix ++ drop 4 label) where
+  abbrev lent : List ℕ
+  lent = take (length now - 4) (drop 4 now)
+
+  rest-lent : lent ≡ drop 4 label
+  unfolding prefix
+  rest-lent = lent-is 4 prefix (drop 4 label) now refl begun
+
+  pub label-written : base32.encodeOutcome octets (length lent) ≡ done (quintetCount (length octets))
+  label-written = encode-done octets (length lent) (quintetCount (length octets)) refl (omega (arith, ap length rest-lent, length-drop 4 label))
+
+  pub label-stored : (part : List ℕ) → part ≡ bufferAfter (base32.encodeOutcome octets (length lent)) (charactersOf lace octets) lent
+      → take 4 now ++ (part ++ drop (length now - 4) (drop 4 now)) ≡ (prefix ++ charactersOf lace octets) ++ drop (4 + quintetCount (length octets)) label
+  unfolding prefix bufferAfter
+  label-stored part e =
+      let q = quintetCount (length octets) in
+      lent-back 4 prefix (drop 4 label) now refl begun part (λ (l : List ℕ). charactersOf lace octets ++ drop q l) (e ∙ rw label-written)
+      ∙ ap (λ (l : List ℕ). prefix ++ (charactersOf lace octets ++ l)) (drop-drop q 4 label)
+      ∙ sym (append-assoc prefix (charactersOf lace octets) (drop (4 + q) label))
+
+-- the length of a label, by its octets
+pub length-label : (t : List ℕ) → length (labelOf t) ≡ 4 + quintetCount (length (octetsOf (toUnits t)))
+unfolding labelOf prefix
+length-label t = omega (arith, length-charactersOf lace (octetsOf (toUnits t)))
+
+-- 36 octets or fewer make a label of at most 63 bytes, more make a longer one
+octets-long : (us : List ℕ) → 36 < length (octetsOf us) → unitsOutcome us ≡ refused 3 0
+unfolding unitsOutcome refusedIf
+octets-long us h = rw (lt-ltb 63 (4 + quintetCount (length (octetsOf us))) (omega arith))
+
+octets-short : (us : List ℕ) → length (octetsOf us) ≤ 36 → unitsOutcome us ≡ done (4 + quintetCount (length (octetsOf us)))
+unfolding unitsOutcome refusedIf
+octets-short us h = rw (le-ltb 63 (4 + quintetCount (length (octetsOf us))) (omega arith))
+
+-- the octets of units stand first in their buffer
+module _ (us : List ℕ) (n : ℕ) (count : n ≡ length (octetsOf us)) (now old : List ℕ) (left : now ≡ octetsOf us ++ drop (length (octetsOf us)) old) where
+  pub octets-lent : n ≡ length (take n now)
+  octets-lent = front-long n (octetsOf us) _ now count left
+
+  pub octets-are : take n now ≡ octetsOf us
+  octets-are = front-is n (octetsOf us) _ now count left
+
+-- the returns of `encode_units`: the answer and the buffer
+module _ (us label : List ℕ) where
+  abbrev UnitsAnswered : Outcome → List ℕ → Type 0
+  UnitsAnswered answer now =
+      (answer ≡ unitsOutcome us) × (now ≡ bufferAfter (unitsOutcome us) (prefix ++ charactersOf lace (octetsOf us)) label)
+
+  pub units-many : 1 ≤ length us → 34 < length us → (answer : Outcome) → answer ≡ refused 3 0 → UnitsAnswered answer label
+  units-many some h answer e = refusal-leaves _ answer _ label 3 0 e (octets-long us (omega (arith, units-few us some)))
+
+  module _ (n : ℕ) (count : n ≡ length (octetsOf us)) where
+    pub octets-many : 36 < n → (answer : Outcome) → answer ≡ refused 3 0 → UnitsAnswered answer label
+    octets-many h answer e = refusal-leaves _ answer _ label 3 0 e (octets-long us (omega arith))
+
+    pub units-done : n ≤ 36 → (os : List ℕ) → os ≡ octetsOf us → (answer : Outcome) (now : List ℕ) → answer ≡ done (4 + quintetCount (length os))
+        → now ≡ (prefix ++ charactersOf lace os) ++ drop (4 + quintetCount (length os)) label → UnitsAnswered answer now
+    units-done h os e answer now a b =
+        let c = 4 + quintetCount (length (octetsOf us)) in
+        let r = done-leaves (unitsOutcome us) (prefix ++ charactersOf lace (octetsOf us)) label now c (octets-short us (omega arith)) (rw e at b) in
+        (rw e at a ∙ r .0, r .1)
+
+-- the converter is done with the text: its units stand first in the buffer
+pub record Converted (t : List ℕ) (answer : Outcome) (now : List ℕ) : Type 0 where
+  pub rest : List ℕ
+  pub counts : answer ≡ done (length (toUnits t))
+  pub leaves : now ≡ toUnits t ++ rest
+
+-- so it is with a text of at most 34 points
+pub converts : (t : List ℕ) (k : ℕ) → k ≡ firstNotPoint t → length t ≤ k → length t ≤ 34
+    → (answer : Outcome) (capacity : ℕ) → answer ≡ toUnitsOutcome t (length t) capacity → 68 ≤ capacity
+    → (now buffer : List ℕ) → now ≡ bufferAfter (toUnitsOutcome t (length t) capacity) (toUnits (take (length t) t)) buffer → Converted t answer now
+unfolding bufferAfter toUnitsOutcome
+converts t k first points few answer capacity is room now buffer left = record {
+  rest = drop (length (toUnits t)) buffer;
+  counts = is ∙ complete;
+  leaves = left ∙ rw (complete, take-length);
+}
+  where
+    complete : toUnitsOutcome t (length t) capacity ≡ done (length (toUnits t))
+    complete =
+        all-done (length t) (length t) (2 * length t) capacity (firstNotPoint (take (length t) t)) 4 (length (toUnits (take (length t) t)))
+        (omega arith) (omega arith) k (first ∙ rw take-length) points (length (toUnits t)) (rw take-length)
+
+module _ {t : List ℕ} {answer : Outcome} {now : List ℕ} (v : Converted t answer now) where
+  pub not-refused : {number position : ℕ} → answer ≡ refused number position → ⊥
+  not-refused e = done-not-refused (v .counts) e
+
+  module _ {n : ℕ} (is : answer ≡ done n) where
+    pub units-fit : n ≤ length now
+    units-fit = front-fits n (toUnits t) (v .rest) now (done-count is (v .counts)) (v .leaves)
+
+    pub units-lent : n ≡ length (take n now)
+    units-lent = front-long n (toUnits t) (v .rest) now (done-count is (v .counts)) (v .leaves)
+
+    pub units-are : take n now ≡ toUnits t
+    units-are = front-is n (toUnits t) (v .rest) now (done-count is (v .counts)) (v .leaves)
+
+    pub units-some : (length t ≡ 0 → ⊥) → 1 ≤ length (take n now)
+    units-some some = let u = some-toUnits t in rw units-are (by-lt 0 (length t) (λ h. omega arith) (λ h. absurd (some (omega arith))))
+
+-- the returns of `encode`: the answer and the buffer, from the tests passed so far
+module _ (label t : List ℕ) where
+  abbrev Answered : Outcome → List ℕ → Type 0
+  Answered answer now =
+      (answer ≡ encodeOutcome isAllLdh (length label) t) × (now ≡ bufferAfter (encodeOutcome isAllLdh (length label) t) (labelOf t) label)
+
+  pub encode-1 : length label < 63 → (answer : Outcome) → answer ≡ refused 1 0 → Answered answer label
+  unfolding encodeOutcome refusedIf
+  encode-1 h answer e = refusal-leaves _ answer _ label 1 0 e (simp (lt-ltb (length label) 63 h))
+
+  module _ (fits : 63 ≤ length label) where
+    pub encode-2 : length t ≡ 0 → (answer : Outcome) → answer ≡ refused 2 0 → Answered answer label
+    unfolding encodeOutcome refusedIf
+    encode-2 h answer e = refusal-leaves _ answer _ label 2 0 e (simp (le-ltb (length label) 63 fits, eq-eqb (length t) 0 h))
+
+    module _ (some : length t ≡ 0 → ⊥) (k : ℕ) (first : k ≡ firstNotPoint t) where
+      pub encode-4 : k < length t → (answer : Outcome) → answer ≡ refused 4 k → Answered answer label
+      unfolding encodeOutcome refusedIf
+      encode-4 h answer e =
+          refusal-leaves _ answer _ label 4 k e
+          (rw (← first) (simp (le-ltb (length label) 63 fits, ne-eqb (length t) 0 some, lt-ltb k (length t) h)))
+
+      module _ (points : length t ≤ k) (ldh : Bool) (all : ldh ≡ isAllLdh t) where
+        pub encode-6 : ldh ≡ true → (answer : Outcome) → answer ≡ refused 6 0 → Answered answer label
+        unfolding encodeOutcome refusedIf
+        encode-6 h answer e =
+            refusal-leaves _ answer _ label 6 0 e
+            (rw (← first, ← all) (simp (le-ltb (length label) 63 fits, ne-eqb (length t) 0 some, le-ltb k (length t) points, h)))
+
+        module _ (other : ldh ≡ false) where
+          -- what is left is what is answered for the units
+          last-test : encodeOutcome isAllLdh (length label) t ≡ unitsOutcome (toUnits t)
+          unfolding encodeOutcome refusedIf unitsOutcome
+          last-test =
+              rw (← first, ← all, ← length-label t)
+              (simp (le-ltb (length label) 63 fits, ne-eqb (length t) 0 some, le-ltb k (length t) points, other))
+
+          pub encode-3 : 34 < length t → (answer : Outcome) → answer ≡ refused 3 0 → Answered answer label
+          encode-3 h answer e =
+              let u = some-toUnits t in
+              refusal-leaves _ answer _ label 3 0 e (last-test ∙ octets-long (toUnits t) (omega (arith, units-few (toUnits t) (omega arith))))
+
+          pub encode-units : (us : List ℕ) → us ≡ toUnits t → (answer : Outcome) (now : List ℕ) → UnitsAnswered us label answer now → Answered answer now
+          unfolding labelOf
+          encode-units us e answer now a = rw (last-test, ← e) a

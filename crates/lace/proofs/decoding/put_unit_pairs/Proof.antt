@@ -1,0 +1,91 @@
+-- What is left are the units of the octets from `2 * i` on.
+use Prim.Native.Nat.{_/_, _+_, _*_, _-_, _≤_}
+use lib.ListN.{length, drop}
+use borrow.Author.Needs.{needs}
+use native.Mathlib.Omega.{arith}
+use Rattle.basis.proofs.Stores.{Storing, storing-all}
+use Rattle.lace.specs.Decoding.{unitPairs}
+use Rattle.lace.proofs.DecodeLaws.{pairs-turn, pairs-end}
+use Rattle.lace.proofs.decoding.put_unit_pairs.Statement.{statement}
+use Rattle.lace.proofs.decoding.put_unit_pairs.Tie as tie
+
+abbrev Inv-loop : tie.InvT-loop
+Inv-loop octets units₀ n i₀ units i = Storing units₀ (unitPairs octets) units i (unitPairs (drop (2 * i) octets)) × (i ≤ length octets / 2)
+
+abbrev μ-loop : tie.MeasureT-loop
+μ-loop octets units₀ n i₀ units i = length octets / 2 - i
+
+loop-holds : tie.Need-loop-holds Inv-loop μ-loop
+loop-holds c = (storing-all _ _, omega arith)
+
+mul-units : tie.Need-mul-units Inv-loop μ-loop
+mul-units c = search needs
+
+shared-slice-read-units : tie.Need-shared-slice-read-units Inv-loop μ-loop
+shared-slice-read-units c = search needs
+
+cast-units : tie.Need-cast-units Inv-loop μ-loop
+cast-units c = omega (arith, c .shared-slice-known .given (2 * c .before .before .loop .i))
+
+mul-units-2 : tie.Need-mul-units-2 Inv-loop μ-loop
+mul-units-2 c = omega (arith, c .shared-slice-known .given (2 * c .before .before .loop .i))
+
+mul-units-3 : tie.Need-mul-units-3 Inv-loop μ-loop
+mul-units-3 c = search needs
+
+add-units : tie.Need-add-units Inv-loop μ-loop
+add-units c = search needs
+
+shared-slice-read-units-2 : tie.Need-shared-slice-read-units-2 Inv-loop μ-loop
+shared-slice-read-units-2 c = search needs
+
+cast-units-2 : tie.Need-cast-units-2 Inv-loop μ-loop
+cast-units-2 c = omega (arith, c .shared-slice-known2 .given (2 * c .before .before .before .loop .i + 1))
+
+add-units-2 : tie.Need-add-units-2 Inv-loop μ-loop
+add-units-2 c = omega (arith, c .before .shared-slice-known .given (2 * c .before .before .before .loop .i), c .shared-slice-known2 .given (2 * c .before .before .before .loop .i + 1))
+
+mul-units-4 : tie.Need-mul-units-4 Inv-loop μ-loop
+mul-units-4 c = search needs
+
+slice-write-units : tie.Need-slice-write-units Inv-loop μ-loop
+slice-write-units c = omega arith
+
+add-i : tie.Need-add-i Inv-loop μ-loop
+add-i c = search needs
+
+loop-less : tie.Need-loop-less Inv-loop μ-loop
+loop-less c = search needs
+
+loop-again : tie.Need-loop-again Inv-loop μ-loop
+loop-again c = let l = c .before .before .before .loop in (pairs-turn _ _ _ _ (l .inv .0) (omega arith), omega arith)
+
+same-length : tie.Need-same-length Inv-loop μ-loop
+same-length c = c .before .loop .inv .0 .long
+
+returns : tie.Need-returns Inv-loop μ-loop
+returns c = pairs-end _ _ _ _ (c .before .loop .inv .0) (c .loop-test .left) (c .before .loop .inv .1) (omega arith)
+
+pub put-unit-pairs-spec : {M : Type 1} → statement M
+put-unit-pairs-spec =
+    tie.close
+    (tie.spec
+    Inv-loop
+    μ-loop
+    loop-holds
+    mul-units
+    shared-slice-read-units
+    cast-units
+    mul-units-2
+    mul-units-3
+    add-units
+    shared-slice-read-units-2
+    cast-units-2
+    add-units-2
+    mul-units-4
+    slice-write-units
+    add-i
+    loop-less
+    loop-again
+    same-length
+    returns)

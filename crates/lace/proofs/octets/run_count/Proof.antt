@@ -1,0 +1,78 @@
+-- The loop counts the neighbours that differ; what is left is the count from the next unit on.
+use Prim.Native.Nat.{_+_, _-_, _≤_}
+use mathlib.Core.Path.{_≡_}
+use lib.ListN.{length, getD, drop}
+use borrow.Author.Needs.{needs}
+use native.Mathlib.Omega.{arith}
+use Rattle.lace.specs.Octets.{changes, runCount}
+use Rattle.lace.proofs.RowTests.{count-none, count-first, count-turn, count-all}
+use Rattle.lace.proofs.octets.run_count.Statement.{statement}
+use Rattle.lace.proofs.octets.run_count.Tie as tie
+
+abbrev Inv-loop : tie.InvT-loop
+Inv-loop units r₀ i₀ r i =
+    (1 ≤ i) × (i ≤ length units) × (r ≤ i) × (runCount units ≡ r + changes (getD units (i - 1) 0) (drop i units))
+
+abbrev μ-loop : tie.MeasureT-loop
+μ-loop units r₀ i₀ r i = length units - i
+
+returns : tie.Need-returns Inv-loop μ-loop
+returns c = (count-none _ (c .if1 .taken), omega arith)
+
+loop-holds : tie.Need-loop-holds Inv-loop μ-loop
+loop-holds c = (omega arith, omega arith, omega arith, count-first _ (c .if1 .left))
+
+sub-change : tie.Need-sub-change Inv-loop μ-loop
+sub-change c = search needs
+
+mul-change : tie.Need-mul-change Inv-loop μ-loop
+mul-change c = search needs
+
+shared-slice-read-change : tie.Need-shared-slice-read-change Inv-loop μ-loop
+shared-slice-read-change c = search needs
+
+mul-change-2 : tie.Need-mul-change-2 Inv-loop μ-loop
+mul-change-2 c = search needs
+
+shared-slice-read-change-2 : tie.Need-shared-slice-read-change-2 Inv-loop μ-loop
+shared-slice-read-change-2 c = search needs
+
+change-requires : tie.Need-change-requires Inv-loop μ-loop
+change-requires c κs = search needs
+
+add-r : tie.Need-add-r Inv-loop μ-loop
+add-r c = omega (arith, c .change .ensures .1)
+
+add-i : tie.Need-add-i Inv-loop μ-loop
+add-i c = search needs
+
+loop-less : tie.Need-loop-less Inv-loop μ-loop
+loop-less c = search needs
+
+loop-again : tie.Need-loop-again Inv-loop μ-loop
+loop-again c =
+    let l = c .before .before .before .before .loop in
+    (omega arith, omega arith, omega (arith, c .change .ensures .1), count-turn _ (l .i) _ _ (l .inv .0) (omega arith) (l .inv .3) (c .change .ensures .0))
+
+returns-2 : tie.Need-returns-2 Inv-loop μ-loop
+returns-2 c = let l = c .before .loop in (count-all _ (l .i) _ _ (omega arith) (l .inv .3), omega arith)
+
+pub run-count-spec : {M : Type 1} → statement M
+run-count-spec =
+    tie.close
+    (tie.spec
+    Inv-loop
+    μ-loop
+    returns
+    loop-holds
+    sub-change
+    mul-change
+    shared-slice-read-change
+    mul-change-2
+    shared-slice-read-change-2
+    change-requires
+    add-r
+    add-i
+    loop-less
+    loop-again
+    returns-2)

@@ -1,0 +1,66 @@
+-- The loop passes LDH numbers; the first that is not answers.
+use Prim.Native.Nat.{ℕ, _-_, _≤_, _<_}
+use mathlib.Core.Path.{_≡_}
+use mathlib.Core.Bool.{true}
+use lib.ListN.{length, getD}
+use borrow.Author.Count.{below-none, below-more}
+use borrow.Author.Needs.{needs}
+use native.Mathlib.Omega.{arith}
+use Rattle.utf16.specs.Points.{isLdh}
+use Rattle.lace.proofs.RowTests.{ldh-not, ldh-all, ldh-passed}
+use Rattle.lace.proofs.octets.text_all_ldh.Statement.{statement}
+use Rattle.lace.proofs.octets.text_all_ldh.Tie as tie
+
+abbrev Inv-loop : tie.InvT-loop
+Inv-loop text i₀ i = (i ≤ length text) × ((k : ℕ) → k < i → isLdh (getD text k 0) ≡ true)
+
+abbrev μ-loop : tie.MeasureT-loop
+μ-loop text i₀ i = length text - i
+
+loop-holds : tie.Need-loop-holds Inv-loop μ-loop
+loop-holds c = (omega arith, below-none _)
+
+mul-is-ldh : tie.Need-mul-is-ldh Inv-loop μ-loop
+mul-is-ldh c = search needs
+
+shared-slice-read-is-ldh : tie.Need-shared-slice-read-is-ldh Inv-loop μ-loop
+shared-slice-read-is-ldh c = search needs
+
+is-ldh-requires : tie.Need-is-ldh-requires Inv-loop μ-loop
+is-ldh-requires c κs = search needs
+
+returns : tie.Need-returns Inv-loop μ-loop
+returns c =
+    let l = c .before .before .before .before .loop in
+    ldh-not _ (l .i) (omega arith) _ (c .before .is-ldh .ensures) (c .if1 .taken)
+
+add-i : tie.Need-add-i Inv-loop μ-loop
+add-i c = search needs
+
+loop-less : tie.Need-loop-less Inv-loop μ-loop
+loop-less c = search needs
+
+loop-again : tie.Need-loop-again Inv-loop μ-loop
+loop-again c =
+    (omega arith, below-more _ _ (c .before .before .before .before .loop .inv .1) (ldh-passed _ _ (c .before .is-ldh .ensures) (c .if1 .left)))
+
+returns-2 : tie.Need-returns-2 Inv-loop μ-loop
+returns-2 c =
+    let l = c .before .loop in
+    ldh-all _ (l .i) (omega arith) (l .inv .0) (l .inv .1)
+
+pub text-all-ldh-spec : {M : Type 1} → statement M
+text-all-ldh-spec =
+    tie.close
+    (tie.spec
+    Inv-loop
+    μ-loop
+    loop-holds
+    mul-is-ldh
+    shared-slice-read-is-ldh
+    is-ldh-requires
+    returns
+    add-i
+    loop-less
+    loop-again
+    returns-2)

@@ -1,0 +1,49 @@
+-- Units as octets: runs (the paper's stretches) of units with equal high octet, all units high octet first, and LDH rows.
+use Prim.Native.Nat.{ℕ, suc, _+_, _*_, _/_, _%_}
+use mathlib.Core.Bool.{Bool}
+use mathlib.Core.List.{List, [], _∷_, _++_, map}
+use lib.Dec.{eqb}
+use lib.ListN.{length}
+use Rattle.basis.specs.Tests.{pick, everyIn}
+use Rattle.utf16.specs.Points.{isLdh}
+
+-- the unit of a high and a low octet
+abbrev pub unitOf : ℕ → ℕ → ℕ
+unitOf high low = high * 256 + low
+
+-- a run: its high octet and its low octets
+pub data Run : Type 0 where
+  run : ℕ → List ℕ → Run
+
+-- the units of a row of runs
+unfoldable pub runUnits : List Run → List ℕ
+runUnits [] = []
+runUnits (run high lows ∷ runs) = map (unitOf high) lows ++ runUnits runs
+
+-- for each run its count, its high octet and its low octets
+unfoldable pub runOctets : List Run → List ℕ
+runOctets [] = []
+runOctets (run high lows ∷ runs) = length lows ∷ high ∷ (lows ++ runOctets runs)
+
+-- all units, high octet first
+unfoldable pub unitOctets : List ℕ → List ℕ
+unitOctets [] = []
+unitOctets (u ∷ us) = u / 256 ∷ u % 256 ∷ unitOctets us
+
+-- 1 where two neighbours differ in high octet, else 0
+unfoldable pub changeBetween : ℕ → ℕ → ℕ
+changeBetween before u = pick (eqb (before / 256) (u / 256)) 0 1
+
+-- how many neighbours, from the unit before on, differ in high octet
+unfoldable pub changes : ℕ → List ℕ → ℕ
+changes before [] = 0
+changes before (u ∷ us) = changeBetween before u + changes u us
+
+-- how many longest runs a row of units has: one more than its neighbours that differ in high octet
+unfoldable pub runCount : List ℕ → ℕ
+runCount [] = 0
+runCount (u ∷ us) = suc (changes u us)
+
+-- all are LDH: the rows that LACE leaves to plain host names
+unfoldable pub isAllLdh : List ℕ → Bool
+isAllLdh xs = everyIn isLdh xs

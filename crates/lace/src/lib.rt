@@ -1,0 +1,79 @@
+// LACE: encoding a text as a label, and decoding a label.
+mod decoding;
+mod encoding;
+mod octets;
+mod prefix;
+
+use basis::BytesAnswer;
+use basis::ErrorCode;
+use utf16::PointCount;
+use utf16::PointsAnswer;
+use utf16::UnitsAnswer;
+ghost use mathlib.Core.Path.{_≡_};
+ghost use lib.ListN.{length};
+ghost use Rattle.basis.specs.Outcome.{bytesOutcome, bufferAfter};
+ghost use Rattle.utf16.specs.Answer.{pointsOutcome};
+ghost use Rattle.lace.specs.Octets.{isAllLdh};
+ghost use Rattle.lace.specs.Encoding.{labelOf};
+ghost use Rattle.lace.specs.Decoding.{textOf};
+ghost use Rattle.lace.specs.Answer.{encodeOutcome, decodeOutcome};
+
+// Writes the label of a text.
+pub fn encode(text: &[u32], label: &mut [u8]) -> BytesAnswer
+    ensures { λ r. ⌜ bytesOutcome r ≡ encodeOutcome isAllLdh (length (now (label .entry))) (now (text .entry)) ⌝ }
+    ensures { λ _. ⌜ now (label .exit) ≡ bufferAfter (encodeOutcome isAllLdh (length (now (label .entry))) (now (text .entry))) (labelOf (now (text .entry))) (now (label .entry)) ⌝ }
+{
+    if label.len() < 63 {
+        return basis::bytes_error(ErrorCode::Capacity, 0);
+    }
+    if text.len() == 0 {
+        return basis::bytes_error(ErrorCode::Empty, 0);
+    }
+    let bad = utf16::points::first_not_point(text);
+    if bad < text.len() {
+        return basis::bytes_error(ErrorCode::NotAPoint, bad);
+    }
+    if octets::text_all_ldh(text) {
+        return basis::bytes_error(ErrorCode::AllLdh, 0);
+    }
+    if 34 < text.len() {
+        return basis::bytes_error(ErrorCode::TooLong, 0);
+    }
+    let mut units = [0u16; 68];
+    let answer = utf16::to_units(text, PointCount(text.len()), &mut units);
+    match answer {
+        UnitsAnswer::Error { code, position } => basis::bytes_error(code, position),
+        UnitsAnswer::Units(count) => {
+            let n = count.0;
+            encoding::encode_units(&units[..n], label)
+        }
+    }
+}
+
+// Reads the text of a label.
+pub fn decode(label: &[u8], text: &mut [u32]) -> PointsAnswer
+    ensures { λ r. ⌜ pointsOutcome r ≡ decodeOutcome isAllLdh (length (now (text .entry))) (now (label .entry)) ⌝ }
+    ensures { λ _. ⌜ now (text .exit) ≡ bufferAfter (decodeOutcome isAllLdh (length (now (text .entry))) (now (label .entry))) (textOf (now (label .entry))) (now (text .entry)) ⌝ }
+{
+    if text.len() < 63 {
+        return utf16::points_error(ErrorCode::Capacity, 0);
+    }
+    if label.len() == 0 {
+        return utf16::points_error(ErrorCode::Empty, 0);
+    }
+    if 63 < label.len() {
+        return utf16::points_error(ErrorCode::TooLong, 0);
+    }
+    if !prefix::has_prefix(label) {
+        return utf16::points_error(ErrorCode::NoPrefix, 0);
+    }
+    let mut octets = [0u8; 36];
+    let answer = base32::decode(&label[4..], &mut octets);
+    match answer {
+        BytesAnswer::Error { code, position } => decoding::after_prefix_error(code, position),
+        BytesAnswer::Bytes(count) => {
+            let n = count.0;
+            decoding::decode_octets(&octets[..n], text)
+        }
+    }
+}

@@ -1,0 +1,194 @@
+//! AltDUDE (source document 003): the spelling, writing and reading.
+
+use crate::point::{first_no_point, is_point, value_in, HYPHEN, LABEL_MAX};
+use crate::refusal::{refuse, refuse_at, Cause, Refusal};
+
+/// The characters for 0 to 31.
+pub const CHARACTERS: &[u8; 32] = b"abcdefghijkmnpqrstuvwxyz23456789";
+
+/// The remembered number at the start.
+pub const START: u32 = 96;
+
+/// Writes a text as a label. Order: 1, 2, 4, 5, 3.
+pub fn encode(text: &[u32], out: &mut [u8]) -> Result<usize, Refusal> {
+    if out.len() < LABEL_MAX {
+        return refuse(Cause::Room);
+    }
+    if text.is_empty() {
+        return refuse(Cause::Empty);
+    }
+    if let Some(place) = first_no_point(text) {
+        return refuse_at(Cause::NoPoint, place);
+    }
+    if text.first() == Some(&HYPHEN) || text.last() == Some(&HYPHEN) {
+        return refuse(Cause::EdgeHyphen);
+    }
+    let label = spelling(text);
+    if label.len() > LABEL_MAX {
+        return refuse(Cause::TooLong);
+    }
+    out[..label.len()].copy_from_slice(&label);
+    Ok(label.len())
+}
+
+/// Reads a label as a text. Order: 1, 2, 3, 7, 5, 9.
+pub fn decode(label: &[u8], out: &mut [u32]) -> Result<usize, Refusal> {
+    if out.len() < LABEL_MAX {
+        return refuse(Cause::Room);
+    }
+    if label.is_empty() {
+        return refuse(Cause::Empty);
+    }
+    if label.len() > LABEL_MAX {
+        return refuse(Cause::TooLong);
+    }
+    let characters = match characters_of(label) {
+        Ok(characters) => characters,
+        Err(place) => return refuse_at(Cause::ForeignByte, place),
+    };
+    if label.first() == Some(&b'-') || label.last() == Some(&b'-') {
+        return refuse(Cause::EdgeHyphen);
+    }
+    let text = items_of(&characters).and_then(|items| text_of(&items));
+    match text {
+        None => refuse(Cause::BadForm),
+        Some(text) => {
+            out[..text.len()].copy_from_slice(&text);
+            Ok(text.len())
+        }
+    }
+}
+
+/// The spelling of a text of any length.
+pub fn spelling(text: &[u32]) -> Vec<u8> {
+    let mut label = Vec::new();
+    let mut remembered = START;
+    for &point in text {
+        if point == HYPHEN {
+            label.push(b'-');
+        } else {
+            label.extend(group_for(point ^ remembered));
+            remembered = point;
+        }
+    }
+    label
+}
+
+/// The group of characters that spells a number.
+pub fn group_for(number: u32) -> Vec<u8> {
+    let mut digits = vec![(number % 16) as usize];
+    let mut left = number / 16;
+    while left > 0 {
+        digits.push((left % 16) as usize);
+        left /= 16;
+    }
+    // The digits are in rising order: index 0 holds the last one.
+    let character = |place: usize| match place {
+        0 => CHARACTERS[digits[0]],
+        _ => CHARACTERS[16 + digits[place]],
+    };
+    (0..digits.len()).rev().map(character).collect()
+}
+
+/// One byte of a label, understood.
+#[derive(Clone, Copy)]
+enum Character {
+    Hyphen,
+    Quintet(u8),
+}
+
+/// The characters of a label, or the index of the first foreign byte.
+fn characters_of(label: &[u8]) -> Result<Vec<Character>, usize> {
+    let mut characters = Vec::new();
+    for (index, &byte) in label.iter().enumerate() {
+        if byte == b'-' {
+            characters.push(Character::Hyphen);
+        } else {
+            match value_in(CHARACTERS, byte) {
+                Some(value) => characters.push(Character::Quintet(value)),
+                None => return Err(index),
+            }
+        }
+    }
+    Ok(characters)
+}
+
+/// An item of a label: a hyphen, or a group with its hexadecimal digits.
+enum Item {
+    Hyphen,
+    Group(Vec<u8>),
+}
+
+/// The label as a row of items, if it is one.
+fn items_of(characters: &[Character]) -> Option<Vec<Item>> {
+    let mut items = Vec::new();
+    let mut left = characters;
+    while !left.is_empty() {
+        let (item, rest) = item_at(left)?;
+        items.push(item);
+        left = rest;
+    }
+    Some(items)
+}
+
+/// The first item and what follows it.
+fn item_at(characters: &[Character]) -> Option<(Item, &[Character])> {
+    match characters.split_first()? {
+        (Character::Hyphen, rest) => Some((Item::Hyphen, rest)),
+        (Character::Quintet(_), _) => group_at(characters),
+    }
+}
+
+/// The first group and what follows it.
+///
+/// Any number of values 16 to 31 and then one of 0 to 15. A hyphen or the end
+/// of the label leaves the group unfinished. Two or more do not begin with `s`.
+fn group_at(characters: &[Character]) -> Option<(Item, &[Character])> {
+    let mut digits = Vec::new();
+    let mut left = characters;
+    loop {
+        let (&first, rest) = left.split_first()?;
+        left = rest;
+        match first {
+            Character::Hyphen => return None,
+            Character::Quintet(value) if value >= 16 => digits.push(value - 16),
+            Character::Quintet(value) => {
+                digits.push(value);
+                break;
+            }
+        }
+    }
+    if digits.len() >= 2 && digits[0] == 0 {
+        return None;
+    }
+    Some((Item::Group(digits), left))
+}
+
+/// The text of a row of items, if each group gives a point that is not 45.
+fn text_of(items: &[Item]) -> Option<Vec<u32>> {
+    let mut text = Vec::new();
+    let mut remembered = START;
+    for item in items {
+        match item {
+            Item::Hyphen => text.push(HYPHEN),
+            Item::Group(digits) => {
+                let number = u64::from(remembered) ^ value_of(digits);
+                remembered = u32::try_from(number).ok()?;
+                if !is_point(remembered) || remembered == HYPHEN {
+                    return None;
+                }
+                text.push(remembered);
+            }
+        }
+    }
+    Some(text)
+}
+
+/// The value of hexadecimal digits, highest first, stopping at the greatest u64.
+///
+/// A value that stops there is far above every point, and stays above after the
+/// XOR with a point. So a group of 63 digits never wraps to a small number.
+fn value_of(digits: &[u8]) -> u64 {
+    let step = |value: u64, &digit: &u8| value.saturating_mul(16).saturating_add(u64::from(digit));
+    digits.iter().fold(0, step)
+}

@@ -1,0 +1,266 @@
+//! The papers' own examples, as data. Nothing here is computed by the schemes.
+
+use crate::book::{CARD_LENGTH, HEADER_KIND};
+
+/// What a paper says of writing a text.
+#[derive(Clone, Copy, Debug, PartialEq, Eq)]
+pub enum Says {
+    Label(&'static str),
+    Refused(u32),
+    Nothing,
+}
+
+/// A row of the scope paper's table "Known spellings".
+pub struct Row {
+    pub text: Vec<u32>,
+    pub altdude: Says,
+    pub lace: Says,
+}
+
+fn row(text: &[u32], altdude: Says, lace: Says) -> Row {
+    Row { text: text.to_vec(), altdude, lace }
+}
+
+/// The table "Known spellings", row by row.
+pub fn known_rows() -> Vec<Row> {
+    use Says::{Label, Nothing, Refused};
+    vec![
+        row(&[0x60], Label("a"), Nothing),
+        row(&[0x61], Label("b"), Refused(6)),
+        row(&[0xFC], Label("3n"), Label("lq--74apy")),
+        row(&[0xFC, 0xFC], Nothing, Label("lq--aiapz7a")),
+        row(&[0x61, 0x2D, 0x61], Label("b-a"), Refused(6)),
+        row(&[0x10FFFF], Label("ts993r"), Nothing),
+        row(&[0x1F9F6], Label("t933g"), Label("lq--77md5xpw")),
+        row(&[0x12F, 0x111, 0x149, 0xE5], Nothing, Label("lq--amas6ekjaeaok")),
+        row(
+            &[0x305D, 0x306E, 0x30B9, 0x30D4, 0x30FC, 0x30C9, 0x3067],
+            Label("vsvpvd7hypuivf4q"),
+            Nothing,
+        ),
+    ]
+}
+
+/// An example string of source document 003.
+pub struct Example {
+    /// The draft's letter for it.
+    pub letter: char,
+    /// The text as the draft shows it, capitals included.
+    pub shown: &'static str,
+    /// The label as the draft prints it, its two lines joined where it has two.
+    pub label: &'static str,
+    /// The refusal that the scope paper's limits give it, if any.
+    pub refused: Option<u32>,
+}
+
+impl Example {
+    /// The folded text. The draft's labels were made with its case-preserving
+    /// model: the text is folded first, and a capital in the label marks a
+    /// letter that was a capital in the text.
+    pub fn text(&self) -> Vec<u32> {
+        self.shown.to_lowercase().chars().map(u32::from).collect()
+    }
+}
+
+/// An example that is written.
+const fn example(letter: char, shown: &'static str, label: &'static str) -> Example {
+    Example { letter, shown, label, refused: None }
+}
+
+/// An example whose label is over 63 bytes.
+const fn long(letter: char, shown: &'static str, label: &'static str) -> Example {
+    Example { letter, shown, label, refused: Some(3) }
+}
+
+/// An example with a hyphen at its edges.
+const fn at_edges(letter: char, shown: &'static str, label: &'static str) -> Example {
+    Example { letter, shown, label, refused: Some(5) }
+}
+
+/// Every example string of source document 003, A to S.
+///
+/// A, B, D to H and J list code points; they are copied one by one. C, I and K
+/// to R mix letters with names such as `<ccaron>`; each name is replaced by the
+/// code points that the draft gives under the text. S stands as it is.
+/// G and K spell over 63 bytes (3); S begins and ends with a hyphen (5).
+pub const EXAMPLES_003: [Example; 19] = [
+    example(
+        'A',
+        "\u{644}\u{64A}\u{647}\u{645}\u{627}\u{628}\u{62A}\u{643}\u{644}\
+         \u{645}\u{648}\u{634}\u{639}\u{631}\u{628}\u{64A}\u{61F}",
+        "yueqpcycrcyjhbpznpitjycxf",
+    ),
+    example(
+        'B',
+        "\u{4ED6}\u{4EEC}\u{4E3A}\u{4EC0}\u{4E48}\u{4E0D}\u{8BF4}\u{4E2D}\u{6587}",
+        "w85gvk7g9k2iwf6x9j6x7ju54k",
+    ),
+    example(
+        'C',
+        "Pro\u{10D}prost\u{11B}nemluv\u{ED}\u{10D}esky",
+        "tActptyctzpctptnhtyrtzfmibtjd3mt8atyitgtitc",
+    ),
+    example(
+        'D',
+        "\u{5DC}\u{5DE}\u{5D4}\u{5D4}\u{5DD}\u{5E4}\u{5E9}\u{5D5}\u{5D8}\
+         \u{5DC}\u{5D0}\u{5DE}\u{5D3}\u{5D1}\u{5E8}\u{5D9}\u{5DD}\u{5E2}\
+         \u{5D1}\u{5E8}\u{5D9}\u{5EA}",
+        "x5nckajvjpvnpenqpcvjvbevrvdvjvbvd",
+    ),
+    example(
+        'E',
+        "\u{92F}\u{939}\u{932}\u{94B}\u{917}\u{939}\u{93F}\u{928}\u{94D}\
+         \u{926}\u{940}\u{915}\u{94D}\u{92F}\u{94B}\u{902}\u{928}\u{939}\
+         \u{940}\u{902}\u{92C}\u{94B}\u{932}\u{938}\u{915}\u{924}\u{947}\
+         \u{939}\u{948}\u{902}",
+        "3wrtgmzjxnuqgthyfymygxfxiycyewjuktbzjwcuqyhzjkupvbydzqzbwk",
+    ),
+    example(
+        'F',
+        "\u{306A}\u{305C}\u{307F}\u{3093}\u{306A}\u{65E5}\u{672C}\u{8A9E}\u{3092}\
+         \u{8A71}\u{3057}\u{3066}\u{304F}\u{308C}\u{306A}\u{3044}\u{306E}\u{304B}",
+        "vsskvgud8n9jxx2ru6j875c54sn548d54ugvbuj6d8guqukuf",
+    ),
+    long(
+        'G',
+        "\u{C138}\u{ACC4}\u{C758}\u{BAA8}\u{B4E0}\u{C0AC}\u{B78C}\u{B4E4}\u{C774}\
+         \u{D55C}\u{AD6D}\u{C5B4}\u{B97C}\u{C774}\u{D574}\u{D55C}\u{B2E4}\u{BA74}\
+         \u{C5BC}\u{B9C8}\u{B098}\u{C88B}\u{C744}\u{AE4C}",
+        "6txiy79ny53nz79a8wizwwnzzuavyizv3atuuiz2vby27jz66iz8si\
+         tusauiyz5i23az96iz6ze3xaz2td96ry3si",
+    ),
+    example(
+        'H',
+        "\u{41F}\u{43E}\u{447}\u{435}\u{43C}\u{443}\u{436}\u{435}\u{43E}\
+         \u{43D}\u{438}\u{43D}\u{435}\u{433}\u{43E}\u{432}\u{43E}\u{440}\
+         \u{44F}\u{442}\u{43F}\u{43E}\u{440}\u{443}\u{441}\u{441}\u{43A}\u{438}",
+        "wxRbzjzcjzrzfdmdffigpnnzqrpzpbzqdcazmc",
+    ),
+    example(
+        'I',
+        "Porqu\u{E9}nopuedensimplementehablarenEspa\u{F1}ol",
+        "tAtrtpde3n2hbtrftabbmtptketptnjiimtktbpjdqptdthmMtgdtb3a3qd",
+    ),
+    example(
+        'J',
+        "\u{4ED6}\u{5011}\u{7232}\u{4EC0}\u{9EBD}\u{4E0D}\u{8AAA}\u{4E2D}\u{6587}",
+        "w85gt86huuudv69c7szp7s5a6w4h6w2hu54k",
+    ),
+    long(
+        'K',
+        "Ta\u{323}isaoho\u{323}kh\u{F4}ngth\u{EA}\u{309}chi\u{309}no\u{301}iti\u{EA}\u{301}\
+         ngVi\u{EA}\u{323}t",
+        "tEtfvwcvwktktcqhhvwnvwid3n3kjtdtn2cv8dvykmbvyavyhbvyqv\
+         yitptp2dv8mvyrjtBtr2dv6jvxh",
+    ),
+    example(
+        'L',
+        "3\u{5E74}B\u{7D44}\u{91D1}\u{516B}\u{5148}\u{751F}",
+        "xdx8whx8tGz7ug863f6s5kuduwxh",
+    ),
+    example(
+        'M',
+        "\u{5B89}\u{5BA4}\u{5948}\u{7F8E}\u{6075}-with-SUPER-MONKEYS",
+        "x58jupu8nuy6gt99m-yssctqtptn-tMGFtFtH-tRCBFQtNK",
+    ),
+    example(
+        'N',
+        "Hello-Another-Way-\u{305D}\u{308C}\u{305E}\u{308C}\u{306E}\u{5834}\u{6240}",
+        "Ipjad-Qrbtmtnpth-Ftgti-vsue7b7c7c8cy2xkv4ze",
+    ),
+    example(
+        'O',
+        "\u{3072}\u{3068}\u{3064}\u{5C4B}\u{6839}\u{306E}\u{4E0B}2",
+        "vstctkny6urvwzcx2xhz8yfw8vj",
+    ),
+    example(
+        'P',
+        "Maji\u{3067}Koi\u{3059}\u{308B}5\u{79D2}\u{524D}",
+        "PnmdvssqvssNegvsva7cvs5qz38hu53r",
+    ),
+    example(
+        'Q',
+        "\u{30D1}\u{30D5}\u{30A3}\u{30FC}de\u{30EB}\u{30F3}\u{30D0}",
+        "vs5bezgxrvs3ibvs2qtiud",
+    ),
+    example('R', "\u{305D}\u{306E}\u{30B9}\u{30D4}\u{30FC}\u{30C9}\u{3067}", "vsvpvd7hypuivf4q"),
+    at_edges('S', "-> $1.00 <-", "-xqtqetftrtqatatn-"),
+];
+
+/// A compression example of source document 004, section 2.4.3.
+pub struct Octets {
+    pub text: &'static [u32],
+    pub octets: &'static [u8],
+}
+
+/// The three compression examples of source document 004, in its order.
+pub fn octets_004() -> [Octets; 3] {
+    [
+        Octets {
+            text: &[0x30E6, 0x30CB, 0x30B3, 0x30FC, 0x30C9],
+            octets: &[0x05, 0x30, 0xE6, 0xCB, 0xB3, 0xFC, 0xC9],
+        },
+        Octets {
+            text: &[0x012F, 0x0111, 0x0149, 0x00E5],
+            octets: &[0x03, 0x01, 0x2F, 0x11, 0x49, 0x01, 0x00, 0xE5],
+        },
+        Octets {
+            text: &[0x012F, 0x00E0, 0x014B],
+            octets: &[0xFF, 0x01, 0x2F, 0x00, 0xE0, 0x01, 0x4B],
+        },
+    ]
+}
+
+/// The Base32 example of source document 004, section 2.5.3.
+pub const BASE32_004: ([u8; 4], &str) = ([0x3A, 0x27, 0x0F, 0x93], "hitq7ey");
+
+/// A label that looks right and is not: the scope paper's list of slips.
+pub struct Slip {
+    pub label: &'static str,
+    pub refused: u32,
+}
+
+/// The slips under AltDUDE.
+pub const ALTDUDE_SLIPS: [Slip; 3] = [
+    Slip { label: "sb", refused: 9 },
+    Slip { label: "wp", refused: 9 },
+    Slip { label: "x", refused: 9 },
+];
+
+/// The slips under LACE.
+pub const LACE_SLIPS: [Slip; 3] = [
+    Slip { label: "lq--aeapy", refused: 9 },
+    Slip { label: "lq--74apz", refused: 9 },
+    Slip { label: "lq--aiagcyq", refused: 6 },
+];
+
+/// The bytes of a book with these cards: kind, reader number, label of at most
+/// 63 bytes.
+pub fn book_of(cards: &[(u8, u16, Vec<u8>)]) -> Vec<u8> {
+    let mut book = vec![HEADER_KIND];
+    book.extend((cards.len() as u16).to_be_bytes());
+    for (kind, reader, label) in cards {
+        let mut card = vec![*kind];
+        card.extend(reader.to_be_bytes());
+        card.push(label.len() as u8);
+        card.extend(label);
+        card.resize(CARD_LENGTH, 0);
+        book.extend(card);
+    }
+    book
+}
+
+/// The scope paper's book: cards 7 (AltDUDE `3n`) and 300 (LACE `lq--74apy`).
+pub fn sample_book() -> Vec<u8> {
+    book_of(&[(0x41, 7, b"3n".to_vec()), (0x4C, 300, b"lq--74apy".to_vec())])
+}
+
+/// U+10FFFF and U+0061 in turn, so many points.
+pub fn in_turn(points: usize) -> Vec<u32> {
+    (0..points).map(|index| if index % 2 == 0 { 0x10FFFF } else { 0x61 }).collect()
+}
+
+/// So many units of ever-changing high octet, none of them LDH.
+pub fn ever_changing(units: usize) -> Vec<u32> {
+    (0..units).map(|index| 0x0131 + 0x100 * index as u32).collect()
+}
