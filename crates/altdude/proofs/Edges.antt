@@ -10,11 +10,10 @@ use lib.ListN.{length}
 use borrow.Author.Tests.{eqb-true, eq-eqb, ne-eqb}
 use native.Mathlib.Omega.{arith}
 use Rattle.basis.specs.Rows.{at}
-use Rattle.basis.specs.Case.{small}
 use Rattle.basis.proofs.Tests.{cases}
-use Rattle.altdude.specs.Symbols.{symbolOf, byteOf, hasEdgeHyphen}
-use Rattle.altdude.specs.Encoding.{leadingDigits, groupOf, itemOf, rememberedAfter, symbolsFrom, labelOf}
-use Rattle.altdude.proofs.Bytes.{KeepsHyphen, keeps-symbol, keeps-byte, keeps-small}
+use Rattle.altdude.specs.Symbols.{symbolOf, hasEdgeHyphen}
+use Rattle.altdude.specs.Encoding.{leadingDigits, groupOf, itemOf, rememberedAfter, symbolsFrom}
+use Rattle.altdude.proofs.Bytes.{KeepsHyphen, keeps-symbol}
 
 -- the last of x and the row
 abbrev lastOf : ℕ → List ℕ → ℕ
@@ -40,9 +39,6 @@ edges-map f keeps l = edges-alike (map f l) l (first l) (last l 0 0 refl)
     last : (l : List ℕ) (d c : ℕ) → eqb d 45 ≡ eqb c 45 → eqb (lastOf d (map f l)) 45 ≡ eqb (lastOf c l) 45
     last [] d c h = h
     last (x ∷ l) d c h = last l (f x) x (keeps x)
-
-pub edges-small : (l : List ℕ) → hasEdgeHyphen (map small l) ≡ hasEdgeHyphen l
-edges-small = edges-map small keeps-small
 
 pub edges-symbols : (l : List ℕ) → hasEdgeHyphen (map symbolOf l) ≡ hasEdgeHyphen l
 edges-symbols = edges-map symbolOf keeps-symbol
@@ -82,10 +78,6 @@ written-last m (p ∷ t) d c h =
 -- a text, the row of symbols that is written of it, and its label
 pub edges-written : (m : ℕ) (t : List ℕ) → hasEdgeHyphen (symbolsFrom m t) ≡ hasEdgeHyphen t
 edges-written m t = edges-alike (symbolsFrom m t) t (written-first m t) (written-last m t 0 0 refl)
-
-pub edges-label : (t : List ℕ) → hasEdgeHyphen (labelOf t) ≡ hasEdgeHyphen t
-unfolding labelOf
-edges-label t = edges-map byteOf keeps-byte (symbolsFrom 96 t) ∙ edges-written 96 t
 
 -- the test holds exactly where the first or the last is a hyphen
 pub edges-iff : (l : List ℕ) → (hasEdgeHyphen l ≡ true) ↔ ((at l 0 ≡ 45) ⊎ (at l (length l - 1) ≡ 45))

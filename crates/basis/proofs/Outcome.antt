@@ -1,10 +1,11 @@
 -- Laws on outcomes: what an entry leaves in the buffer.
 use Prim.Native.Nat.{ℕ}
-use mathlib.Core.Path.{_≡_, sym, _∙_}
+use mathlib.Core.Path.{_≡_, refl, sym, _∙_}
+use mathlib.Core.Bool.{Bool, true, false}
 use mathlib.Core.List.{List, _++_}
 use lib.ListN.{drop}
 use native.Mathlib.Omega.{arith}
-use Rattle.basis.specs.Outcome.{Outcome, done, refused, bufferAfter}
+use Rattle.basis.specs.Outcome.{Outcome, done, refused, refusedIf, bufferAfter}
 
 -- an entry that answers with its outcome, and leaves the buffer or has put the values in front
 pub refused-leaves : (outcome : Outcome) (values buffer : List ℕ) (number position : ℕ) → outcome ≡ refused number position
@@ -30,3 +31,9 @@ done-not-refused d r = let z : _≡_ {A = ℕ} 0 1 = cc in omega arith
 
 pub done-count : {outcome : Outcome} {m n : ℕ} → outcome ≡ done m → outcome ≡ done n → m ≡ n
 done-count d e = cc
+
+-- what is done, no test refused
+pub passed : (test : Bool) (number position : ℕ) (next : Outcome) (count : ℕ) → refusedIf test number position next ≡ done count → (test ≡ false) × (next ≡ done count)
+unfolding refusedIf
+passed true number position next count e = absurd (done-not-refused e refl)
+passed false number position next count e = (refl, e)

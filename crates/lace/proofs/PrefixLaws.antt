@@ -1,11 +1,11 @@
 -- Laws on the prefix: when a label has it, whatever its case, and what follows it.
-use Prim.Native.Nat.{ℕ, zero, suc, _+_, _≤_, _<_}
+use Prim.Native.Nat.{ℕ, zero, suc, _≤_, _<_}
 use mathlib.Core.Path.{_≡_, refl, sym, ap, ap₂, _∙_, fun-ext}
 use mathlib.Core.Bool.{true}
 use mathlib.Core.Logic.{_↔_}
 use mathlib.Core.List.{List, [], _∷_, _++_, map}
 use lib.Dec.{eqb}
-use lib.ListN.{length, drop, length-drop, List·getD-map}
+use lib.ListN.{length, drop, List·getD-map}
 use borrow.Author.Tests.{eqb-true, eq-eqb}
 use native.Mathlib.Omega.{arith}
 use Rattle.basis.specs.Tests.{both, within, every}
@@ -64,11 +64,3 @@ drop-map f (suc n) (x ∷ l) = drop-map f n l
 
 pub after-small : (l : List ℕ) → afterPrefix (map small l) ≡ map small (afterPrefix l)
 after-small l = drop-map small 4 l
-
--- how long it is
-pub length-front : (cs : List ℕ) → length (prefix ++ cs) ≡ 4 + length cs
-unfolding prefix
-length-front cs = omega arith
-
-pub length-after : (l : List ℕ) → hasPrefix l ≡ true → length l ≡ 4 + length (afterPrefix l)
-length-after l e = omega (arith, prefix-long l e, length-drop 4 l)

@@ -238,6 +238,3 @@ distinct-runs (run h (l ∷ lows) ∷ rs) d c b =
     let g : AllBelow 256 (l ∷ lows ++ runOctets rs) = λ i k. b (suc (suc i)) (omega arith) in
     longest-run h l lows (runUnits rs) rs (distinct-runs rs (t .1) (c .1) (below-right 256 (l ∷ lows) (runOctets rs) g)) (t .0)
     (below-left 256 (l ∷ lows) (runOctets rs) g)
-
-pub distinct-count : (rs : List Run) → Differ rs → Counted rs → AllBelow 256 (runOctets rs) → runCount (runUnits rs) ≡ length rs
-distinct-count rs d c b = sym (runs-count (runUnits rs)) ∙ ap length (distinct-runs rs d c b)

@@ -1,0 +1,54 @@
+-- `lines::put_list_line` meets its contract.
+use native.Mathlib.Omega.{arith}
+use borrow.Author.Needs.{needs}
+use Rattle.report.specs.Lines.{listLine}
+use Rattle.report.proofs.Writes.{then, stored-long}
+use Rattle.report.proofs.DigitLaws.{fixed-length}
+use Rattle.report.proofs.LineLaws.{list-line-length}
+use Rattle.report.proofs.lines.put_list_line.Statement.{statement}
+use Rattle.report.proofs.lines.put_list_line.Tie as tie
+
+put-fixed-digits-requires : tie.Need-put-fixed-digits-requires
+put-fixed-digits-requires c κs =
+    let a = c .before .before .before .args in
+    (omega arith, (omega arith, omega (arith, list-line-length (a .reader) (a .letter) (a .points .now))))
+
+slice-aggregate-put-bytes : tie.Need-slice-aggregate-put-bytes
+slice-aggregate-put-bytes c = search needs
+
+put-bytes-requires : tie.Need-put-bytes-requires
+put-bytes-requires c κs =
+    let d = c .before .before .before .before in
+    let a = d .before .before .before .before .args in
+    let e = d .put-fixed-digits .ensures in
+    omega (arith, list-line-length (a .reader) (a .letter) (a .points .now), fixed-length 10 5 (a .reader), e .index, stored-long e)
+
+put-points-line-requires : tie.Need-put-points-line-requires
+put-points-line-requires c κs =
+    let b = c .before .before .before in
+    let d = b .before .before .before .before .before in
+    let a = d .before .before .before .before .args in
+    let e = d .put-fixed-digits .ensures in
+    let f = b .put-bytes .ensures in
+    omega (arith, list-line-length (a .reader) (a .letter) (a .points .now), fixed-length 10 5 (a .reader), e .index, stored-long e, f .index, stored-long f)
+
+same-length : tie.Need-same-length
+same-length c = search needs
+
+returns : tie.Need-returns
+unfolding listLine
+returns c =
+    let p = c .before .before in
+    let b = p .before .before .before .before in
+    then (b .before .before .before .before .before .put-fixed-digits .ensures) (then (b .put-bytes .ensures) (p .put-points-line .ensures))
+
+pub put-list-line-spec : {M : Type 1} → statement M
+put-list-line-spec =
+    tie.close
+    (tie.spec
+    put-fixed-digits-requires
+    slice-aggregate-put-bytes
+    put-bytes-requires
+    put-points-line-requires
+    same-length
+    returns)

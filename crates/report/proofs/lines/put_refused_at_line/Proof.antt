@@ -1,0 +1,71 @@
+-- `lines::put_refused_at_line` meets its contract.
+use native.Mathlib.Omega.{arith}
+use borrow.Author.Needs.{needs}
+use Rattle.report.specs.Lines.{atWord, refusedAtLine}
+use Rattle.report.proofs.Writes.{then, stored-byte, stored-long}
+use Rattle.report.proofs.LineLaws.{refused-at-length}
+use Rattle.report.proofs.lines.put_refused_at_line.Statement.{statement}
+use Rattle.report.proofs.lines.put_refused_at_line.Tie as tie
+
+put-refused-number-requires : tie.Need-put-refused-number-requires
+put-refused-number-requires c κs =
+    let a = c .before .before .args in
+    omega (arith, refused-at-length (a .code) (a .position))
+
+slice-aggregate-put-bytes : tie.Need-slice-aggregate-put-bytes
+slice-aggregate-put-bytes c = search needs
+
+put-bytes-requires : tie.Need-put-bytes-requires
+put-bytes-requires c κs =
+    let p = c .before .before .before .before in
+    let e = p .put-refused-number .ensures in
+    let a = p .before .before .before .args in
+    omega (arith, refused-at-length (a .code) (a .position), e .index, stored-long e)
+
+put-digits-requires : tie.Need-put-digits-requires
+put-digits-requires c κs =
+    let p = c .before .before .before in
+    let n = p .before .before .before .before .before in
+    let a = n .before .before .before .args in
+    let e = n .put-refused-number .ensures in
+    let f = p .put-bytes .ensures in (
+      omega arith,
+      (omega arith, (omega arith, omega (arith, refused-at-length (a .code) (a .position), e .index, stored-long e, f .index, stored-long f))),
+    )
+
+slice-write-out : tie.Need-slice-write-out
+slice-write-out c =
+    let d = c .before .before in
+    let p = d .before .before .before .before in
+    let n = p .before .before .before .before .before in
+    let a = n .before .before .before .args in
+    let e = n .put-refused-number .ensures in
+    let f = p .put-bytes .ensures in
+    let g = d .put-digits .ensures in
+    omega (arith, refused-at-length (a .code) (a .position), e .index, stored-long e, f .index, stored-long f, g .index, stored-long g)
+
+add-result : tie.Need-add-result
+add-result c = omega (arith, slice-write-out c)
+
+returns : tie.Need-returns
+unfolding refusedAtLine atWord
+returns c =
+    let d = c .before .before in
+    let p = d .before .before .before .before in
+    then (p .before .before .before .before .before .put-refused-number .ensures) (then (p .put-bytes .ensures) (then (d .put-digits .ensures) (stored-byte _ _ 10)))
+
+same-length : tie.Need-same-length
+same-length c = stored-long (returns c)
+
+pub put-refused-at-line-spec : {M : Type 1} → statement M
+put-refused-at-line-spec =
+    tie.close
+    (tie.spec
+    put-refused-number-requires
+    slice-aggregate-put-bytes
+    put-bytes-requires
+    put-digits-requires
+    slice-write-out
+    add-result
+    same-length
+    returns)

@@ -1,0 +1,33 @@
+-- `points::put_point` meets its contract.
+use native.Mathlib.Omega.{arith}
+use borrow.Author.Needs.{needs}
+use Rattle.report.specs.Lines.{pointMark, pointBytes}
+use Rattle.report.proofs.Writes.{then, stored-long}
+use Rattle.report.proofs.PointLaws.{point-length}
+use Rattle.report.proofs.points.put_point.Statement.{statement}
+use Rattle.report.proofs.points.put_point.Tie as tie
+
+slice-aggregate-put-bytes : tie.Need-slice-aggregate-put-bytes
+slice-aggregate-put-bytes c = search needs
+
+put-bytes-requires : tie.Need-put-bytes-requires
+put-bytes-requires c κs = omega (arith, point-length (c .before .before .before .args .point))
+
+put-digits-requires : tie.Need-put-digits-requires
+put-digits-requires c κs =
+    let p = c .before .before .before in
+    let e = p .put-bytes .ensures in
+    let a = p .before .before .before .before .args in
+    (omega arith, (omega arith, (omega arith, omega (arith, point-length (a .point), e .index, stored-long e))))
+
+same-length : tie.Need-same-length
+same-length c = search needs
+
+returns : tie.Need-returns
+unfolding pointBytes pointMark
+returns c = let p = c .before .before in then (p .before .before .before .before .put-bytes .ensures) (p .put-digits .ensures)
+
+pub put-point-spec : {M : Type 1} → statement M
+put-point-spec =
+    tie.close
+    (tie.spec slice-aggregate-put-bytes put-bytes-requires put-digits-requires same-length returns)

@@ -1,0 +1,114 @@
+-- `points::put_points` meets its contract: the points from i on are left to store, each after a space.
+use Prim.Native.Nat.{_+_, _-_, _≤_}
+use mathlib.Core.Path.{_≡_, refl, _∙_}
+use native.Mathlib.Omega.{arith}
+use lib.ListN.{length-set, length, drop}
+use borrow.Author.Needs.{needs}
+use Rattle.report.specs.Lines.{spacedPoints}
+use Rattle.report.proofs.Writes.{Begun, begun-start, stored-long}
+use Rattle.report.proofs.PointLaws.{stored-no-points, first-length, spaced-length, point-turn, points-end}
+use Rattle.report.proofs.points.put_points.Statement.{statement}
+use Rattle.report.proofs.points.put_points.Tie as tie
+
+abbrev Inv-loop : tie.InvT-loop
+Inv-loop points out₀ at next₀ i₀ out next i =
+    Begun out₀ next₀ (spacedPoints (drop 1 points)) out next (spacedPoints (drop i points))
+    × (length out ≡ length out₀)
+    × (next + length (spacedPoints (drop i points)) ≤ length out₀)
+    × (i ≤ length points)
+
+abbrev μ-loop : tie.MeasureT-loop
+μ-loop points out₀ at next₀ i₀ out next i = length points - i
+
+returns : tie.Need-returns Inv-loop μ-loop
+returns c = stored-no-points _ (c .if1 .taken) _ _
+
+shared-slice-read-put-point : tie.Need-shared-slice-read-put-point Inv-loop μ-loop
+shared-slice-read-put-point c = search needs
+
+put-point-requires : tie.Need-put-point-requires Inv-loop μ-loop
+put-point-requires c κs =
+    let b = c .before .before in
+    omega (arith, first-length (b .before .before .before .args .points .now) (b .if1 .left))
+
+loop-holds : tie.Need-loop-holds Inv-loop μ-loop
+loop-holds c =
+    let p = c .before .before in
+    let b = p .before .before .before in
+    let e = p .put-point .ensures in (
+      begun-start _ _ _,
+      refl,
+      omega (arith, first-length (b .before .before .before .args .points .now) (b .if1 .left), e .index, stored-long e),
+      omega arith,
+    )
+
+slice-write-out : tie.Need-slice-write-out Inv-loop μ-loop
+slice-write-out c =
+    let l = c .before in
+    omega (arith, spaced-length (l .before .before .before .before .before .before .before .before .before .args .points .now) (l .loop .i) (c .loop-test .taken))
+
+mul-put-point : tie.Need-mul-put-point Inv-loop μ-loop
+mul-put-point c = search needs
+
+shared-slice-read-put-point-2 : tie.Need-shared-slice-read-put-point-2 Inv-loop μ-loop
+shared-slice-read-put-point-2 c = search needs
+
+add-put-point : tie.Need-add-put-point Inv-loop μ-loop
+add-put-point c =
+    let l = c .before .before .before in
+    omega (arith, spaced-length (l .before .before .before .before .before .before .before .before .before .args .points .now) (l .loop .i) (c .before .before .loop-test .taken))
+
+put-point-requires-2 : tie.Need-put-point-requires-2 Inv-loop μ-loop
+put-point-requires-2 c κs =
+    let l = c .before .before .before in
+    rw length-set
+    (omega (arith, spaced-length (l .before .before .before .before .before .before .before .before .before .args .points .now) (l .loop .i) (c .before .before .loop-test .taken)))
+
+add-i : tie.Need-add-i Inv-loop μ-loop
+add-i c = search needs
+
+loop-less : tie.Need-loop-less Inv-loop μ-loop
+loop-less c = search needs
+
+loop-again : tie.Need-loop-again Inv-loop μ-loop
+loop-again c =
+    let p = c .before .before in
+    let h = p .before .before .before .loop-test .taken in
+    let l = p .before .before .before .before in
+    let t = l .before .before .before .before .before .before .before .before .before .args .points .now in
+    let e = p .put-point2 .ensures in (
+      point-turn t (l .loop .i) h (l .loop .inv .0) e,
+      stored-long e ∙ rw length-set (l .loop .inv .1),
+      omega (arith, spaced-length t (l .loop .i) h, e .index),
+      omega arith,
+    )
+
+same-length : tie.Need-same-length Inv-loop μ-loop
+same-length c = let l = c .before in l .loop .inv .1 ∙ stored-long (l .before .before .before .put-point .ensures)
+
+returns-2 : tie.Need-returns-2 Inv-loop μ-loop
+returns-2 c =
+    let l = c .before in
+    let p = l .before .before .before in
+    points-end _ _ (p .before .before .before .if1 .left) (c .loop-test .left) (p .put-point .ensures) (l .loop .inv .0)
+
+pub put-points-spec : {M : Type 1} → statement M
+put-points-spec =
+    tie.close
+    (tie.spec
+    Inv-loop
+    μ-loop
+    returns
+    shared-slice-read-put-point
+    put-point-requires
+    loop-holds
+    slice-write-out
+    mul-put-point
+    shared-slice-read-put-point-2
+    add-put-point
+    put-point-requires-2
+    add-i
+    loop-less
+    loop-again
+    same-length
+    returns-2)

@@ -1,0 +1,61 @@
+-- `refused_at_line` meets its contract: the line is measured before the first store.
+use mathlib.Core.Path.{ap}
+use native.Mathlib.Omega.{arith}
+use borrow.Author.Needs.{needs}
+use Rattle.basis.specs.Outcome.{bytesOutcome, numberOf}
+use Rattle.report.specs.Lines.{refusedAtLine}
+use Rattle.report.proofs.Writes.{stored-long}
+use Rattle.report.proofs.LineLaws.{number-length, refused-at-length, line-refused, line-done}
+use Rattle.report.proofs.refused_at_line.Statement.{statement}
+use Rattle.report.proofs.refused_at_line.Tie as tie
+
+digits-length-requires : tie.Need-digits-length-requires
+digits-length-requires c κs = search needs
+
+digits-length-requires-2 : tie.Need-digits-length-requires-2
+digits-length-requires-2 c κs = search needs
+
+add-if1 : tie.Need-add-if1
+add-if1 c = search needs
+
+add-if1-2 : tie.Need-add-if1-2
+add-if1-2 c = search needs
+
+bytes-error-requires : tie.Need-bytes-error-requires
+bytes-error-requires c κs = search needs
+
+returns : tie.Need-returns
+unfolding bytesOutcome numberOf
+returns c =
+    let a = c .before .before .before .before .before .args in
+    line-refused (refusedAtLine (a .code) (a .position)) (a .out .now) (omega (arith, refused-at-length (a .code) (a .position), number-length (a .code))) _
+    (ap bytesOutcome (c .bytes-error .ensures))
+
+put-refused-at-line-requires : tie.Need-put-refused-at-line-requires
+put-refused-at-line-requires c κs =
+    let a = c .before .before .before .before .before .args in
+    omega (arith, refused-at-length (a .code) (a .position), number-length (a .code))
+
+same-length : tie.Need-same-length
+same-length c = stored-long (c .before .before .put-refused-at-line .ensures)
+
+returns-2 : tie.Need-returns-2
+unfolding bytesOutcome
+returns-2 c =
+    let a = c .before .before .before .before .before .before .before .before .args in
+    line-done (refusedAtLine (a .code) (a .position)) (a .out .now) (omega (arith, refused-at-length (a .code) (a .position), number-length (a .code))) _ _
+    (c .before .before .put-refused-at-line .ensures)
+
+pub refused-at-line-spec : {M : Type 1} → statement M
+refused-at-line-spec =
+    tie.close
+    (tie.spec
+    digits-length-requires
+    digits-length-requires-2
+    add-if1
+    add-if1-2
+    bytes-error-requires
+    returns
+    put-refused-at-line-requires
+    same-length
+    returns-2)

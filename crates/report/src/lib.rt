@@ -1,0 +1,59 @@
+// What the programs print, as bytes in a lent buffer.
+mod digits;
+mod lines;
+mod points;
+mod store;
+
+use basis::ByteCount;
+use basis::BytesAnswer;
+use basis::ErrorCode;
+ghost use mathlib.Core.Path.{_≡_};
+ghost use lib.ListN.{length};
+ghost use Rattle.basis.specs.Outcome.{bytesOutcome, bufferAfter};
+ghost use Rattle.report.specs.Lines.{listLine, pointsLine, refusedAtLine, refusedLine};
+ghost use Rattle.report.specs.Answer.{lineOutcome};
+
+// Writes the line of a list: reader number, letter and points.
+pub fn list_line(reader: u16, letter: u8, points: &[u32], out: &mut [u8]) -> BytesAnswer
+    ensures { λ r. ⌜ bytesOutcome r ≡ lineOutcome (listLine reader letter (now (points .entry))) (length (now (out .entry))) ⌝ }
+    ensures { λ _. ⌜ now (out .exit) ≡ bufferAfter (lineOutcome (listLine reader letter (now (points .entry))) (length (now (out .entry)))) (listLine reader letter (now (points .entry))) (now (out .entry)) ⌝ }
+{
+    if out.len() < points::points_length(points, out.len()) + 9 {
+        return basis::bytes_error(ErrorCode::Capacity, 0);
+    }
+    BytesAnswer::Bytes(ByteCount(lines::put_list_line(reader, letter, points, out)))
+}
+
+// Writes the line of a row of points.
+pub fn points_line(points: &[u32], out: &mut [u8]) -> BytesAnswer
+    ensures { λ r. ⌜ bytesOutcome r ≡ lineOutcome (pointsLine (now (points .entry))) (length (now (out .entry))) ⌝ }
+    ensures { λ _. ⌜ now (out .exit) ≡ bufferAfter (lineOutcome (pointsLine (now (points .entry))) (length (now (out .entry)))) (pointsLine (now (points .entry))) (now (out .entry)) ⌝ }
+{
+    if out.len() < points::points_length(points, out.len()) + 1 {
+        return basis::bytes_error(ErrorCode::Capacity, 0);
+    }
+    BytesAnswer::Bytes(ByteCount(lines::put_points_line(points, out, 0)))
+}
+
+// Writes the line of a refusal with a position.
+pub fn refused_at_line(code: u32, position: usize, out: &mut [u8]) -> BytesAnswer
+    ensures { λ r. ⌜ bytesOutcome r ≡ lineOutcome (refusedAtLine code position) (length (now (out .entry))) ⌝ }
+    ensures { λ _. ⌜ now (out .exit) ≡ bufferAfter (lineOutcome (refusedAtLine code position) (length (now (out .entry)))) (refusedAtLine code position) (now (out .entry)) ⌝ }
+{
+    let n = digits::digits_length(code as usize, 10, 1);
+    if out.len() < n + digits::digits_length(position, 10, 1) + 13 {
+        return basis::bytes_error(ErrorCode::Capacity, 0);
+    }
+    BytesAnswer::Bytes(ByteCount(lines::put_refused_at_line(code, position, out)))
+}
+
+// Writes the line of a refusal without a position.
+pub fn refused_line(code: u32, out: &mut [u8]) -> BytesAnswer
+    ensures { λ r. ⌜ bytesOutcome r ≡ lineOutcome (refusedLine code) (length (now (out .entry))) ⌝ }
+    ensures { λ _. ⌜ now (out .exit) ≡ bufferAfter (lineOutcome (refusedLine code) (length (now (out .entry)))) (refusedLine code) (now (out .entry)) ⌝ }
+{
+    if out.len() < digits::digits_length(code as usize, 10, 1) + 9 {
+        return basis::bytes_error(ErrorCode::Capacity, 0);
+    }
+    BytesAnswer::Bytes(ByteCount(lines::put_refused_line(code, out)))
+}

@@ -1,0 +1,2 @@
+-- The laws on decoding by scheme.
+pub mod Capacity
