@@ -1,6 +1,7 @@
 // The numbered errors that every entry answers with, and an answer in bytes. The shared definitions stand in specs/, the laws
 // on them in proofs/.
 ghost use mathlib.Core.Path.{_≡_};
+ghost use Rattle.basis.specs.Outcome.{numberOf};
 
 // The causes of refusal of the scope paper, in its order; `numberOf` of specs/Outcome.antt gives each its number.
 pub enum ErrorCode {
@@ -34,4 +35,26 @@ pub fn bytes_error(code: ErrorCode, position: usize) -> BytesAnswer
     ensures { λ r. ⌜ r ≡ BytesAnswer.Error code position ⌝ }
 {
     BytesAnswer::Error { code, position }
+}
+
+// The number of an error.
+pub fn code_number(code: ErrorCode) -> u32
+    ensures { λ r. ⌜ r ≡ numberOf code ⌝ }
+{
+    match code {
+        ErrorCode::Capacity => 1,
+        ErrorCode::Empty => 2,
+        ErrorCode::TooLong => 3,
+        ErrorCode::NotAPoint => 4,
+        ErrorCode::EdgeHyphen => 5,
+        ErrorCode::AllLdh => 6,
+        ErrorCode::OutsideAlphabet => 7,
+        ErrorCode::NoPrefix => 8,
+        ErrorCode::NotWellFormed => 9,
+        ErrorCode::UnpairedSurrogate => 10,
+        ErrorCode::UnknownScheme => 11,
+        ErrorCode::OddByteCount => 12,
+        ErrorCode::Truncated => 13,
+        ErrorCode::Malformed => 14,
+    }
 }

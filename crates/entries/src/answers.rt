@@ -6,8 +6,6 @@ use nametable::TableAnswer;
 use scheme::Scheme;
 use utf16::PointsAnswer;
 use utf16::UnitsAnswer;
-ghost use mathlib.Core.Path.{_≡_};
-ghost use Rattle.basis.specs.Outcome.{numberOf};
 
 // Code, position and count; the code of a success is 0.
 pub(crate) struct Answer {
@@ -28,31 +26,9 @@ pub(crate) fn counted(count: usize) -> Answer {
 // An error with its code and position.
 pub(crate) fn refused(code: ErrorCode, position: usize) -> Answer {
     Answer {
-        code: code_number(code),
+        code: basis::code_number(code),
         position: position,
         count: 0,
-    }
-}
-
-// The number of an error's code.
-pub(crate) fn code_number(code: ErrorCode) -> u32
-    ensures { λ r. ⌜ r ≡ numberOf code ⌝ }
-{
-    match code {
-        ErrorCode::Capacity => 1,
-        ErrorCode::Empty => 2,
-        ErrorCode::TooLong => 3,
-        ErrorCode::NotAPoint => 4,
-        ErrorCode::EdgeHyphen => 5,
-        ErrorCode::AllLdh => 6,
-        ErrorCode::OutsideAlphabet => 7,
-        ErrorCode::NoPrefix => 8,
-        ErrorCode::NotWellFormed => 9,
-        ErrorCode::UnpairedSurrogate => 10,
-        ErrorCode::UnknownScheme => 11,
-        ErrorCode::OddByteCount => 12,
-        ErrorCode::Truncated => 13,
-        ErrorCode::Malformed => 14,
     }
 }
 

@@ -1,13 +1,17 @@
--- A table that is read: each of its entries is found, and its label decodes.
+-- A table that is read: each of its entries is found, and its label decodes; the count of points is at most the room.
 use Prim.Native.Nat.{ℕ, _≤_, _<_}
-use mathlib.Core.Path.{_≡_}
-use mathlib.Core.List.{List}
-use lib.ListN.{length}
-use Rattle.basis.specs.Outcome.{done}
+use mathlib.Core.Path.{_≡_, refl, sym, ap, _∙_}
+use mathlib.Core.List.{List, _++_}
+use lib.Dec.{ltb}
+use lib.ListN.{length, drop, length-append}
+use native.Mathlib.Omega.{arith}
+use Rattle.basis.specs.Outcome.{Outcome, done, refused, bufferAfter}
+use Rattle.basis.proofs.Tests.{cases}
+use Rattle.basis.proofs.Outcome.{done-not-refused, done-count}
 use Rattle.scheme.specs.Naming.{numberOf}
 use Rattle.scheme.specs.Coding.{decodeOutcome}
 use Rattle.nametable.specs.Format.{entryAt, readerOf, labelIn, schemeIn}
-use Rattle.nametable.specs.Answer.{readOutcome, found, entryText, findOutcome}
+use Rattle.nametable.specs.Answer.{readOutcome, found, entryText, entryIn, findOutcome, counted}
 use Rattle.nametable.proofs.EntryLaws.{good-decodes}
 use Rattle.nametable.proofs.FindLaws.{found-entry}
 use Rattle.nametable.proofs.TableLaws.{read-table}
@@ -22,3 +26,27 @@ module _ (t : List ℕ) (n index capacity : ℕ) (read : readOutcome t ≡ done 
   pub entry-decodes : decodeOutcome (schemeIn (entryAt t index)) capacity (labelIn (entryAt t index)) ≡ done (length (entryText t index))
   unfolding entryText
   entry-decodes = good-decodes (entryAt t index) (read-table t n read .good index inside) capacity room
+
+-- an entry's count of points is the length of its text
+pub found-count : (t : List ℕ) (index capacity n : ℕ) → counted (findOutcome t index capacity) ≡ done n → n ≡ length (entryText t index)
+unfolding findOutcome entryIn counted
+found-count t index capacity n e =
+    cases (ltb capacity 63)
+    (λ c. absurd (done-not-refused (rw c at e) refl))
+    (λ c. judged (readOutcome t) (rw c at e))
+  where
+    judged : (verdict : Outcome) → counted (entryIn t index verdict) ≡ done n → n ≡ length (entryText t index)
+    judged (refused number position) e = absurd (done-not-refused e refl)
+    judged (done count) e =
+        cases (ltb index count)
+        (λ c. done-count refl (sym (rw c at e)))
+        (λ c. absurd (done-not-refused (rw c at e) refl))
+
+-- so it is at most the room that was lent
+pub found-fits : (t : List ℕ) (index capacity : ℕ) (old now : List ℕ) (n : ℕ) → counted (findOutcome t index capacity) ≡ done n
+    → now ≡ bufferAfter (counted (findOutcome t index capacity)) (entryText t index) old → n ≤ length now
+unfolding bufferAfter
+found-fits t index capacity old now n e b =
+    let k = found-count t index capacity n e in
+    let s : now ≡ entryText t index ++ drop n old = b ∙ rw e in
+    omega (arith, ap length s, length-append (entryText t index) (drop n old))

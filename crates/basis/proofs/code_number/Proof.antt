@@ -1,9 +1,9 @@
--- `answers::code_number` meets its contract: each arm answers the number of its code.
+-- `code_number` meets its contract: each arm answers the number of its code.
 use mathlib.Core.Path.{sym, ap}
 use Rattle.basis.specs.Outcome.{numberOf}
 use borrow.Author.Needs.{needs}
-use Rattle.entries.proofs.answers.code_number.Statement.{statement}
-use Rattle.entries.proofs.answers.code_number.Tie as tie
+use Rattle.basis.proofs.code_number.Statement.{statement}
+use Rattle.basis.proofs.code_number.Tie as tie
 
 enum-told : tie.Need-enum-told
 enum-told c = search needs
