@@ -494,25 +494,82 @@ pub fn scheme_number(source: &mut Source) -> u32 {
     }
 }
 
-/// Text bytes for the firmware's face: now and then odd, unpaired or too long.
+/// Text bytes for the firmware's face, in lawful units or in damaged ones.
 pub fn text_bytes(source: &mut Source) -> Vec<u8> {
-    let mut units = units(source);
-    if source.once_in(12) {
-        let unit = source.pick(&[0x61, 0xFC, 0xD800]);
-        units = vec![unit; source.between(124, 128)];
+    let mut units = match source.below(3) {
+        0 => units(source),
+        _ => utf16::units_of(&points(source)).unwrap_or_default(),
+    };
+    match source.below(16) {
+        0 => {
+            let unit = source.pick(&[0x61, 0xFC, 0x431, 0xD800]);
+            units = vec![unit; source.between(124, 128)];
+        }
+        1 => units.insert(0, HYPHEN as u16),
+        2 => units.push(HYPHEN as u16),
+        3 if source.once_in(4) => units.clear(),
+        _ => {}
     }
     let mut bytes: Vec<u8> = units.iter().flat_map(|unit| unit.to_be_bytes()).collect();
-    if source.once_in(12) {
-        bytes.pop();
+    match source.below(16) {
+        0 => bytes.truncate(bytes.len().saturating_sub(1)),
+        1 => bytes.push(source.below(256) as u8),
+        2 => bytes = random_bytes(source, ROW_MAX),
+        _ => {}
     }
     bytes
 }
 
-/// A capacity around the room that the firmware's face needs.
-pub fn face_room(source: &mut Source, need: usize) -> usize {
-    match source.below(10) {
-        0 => source.pick(&[0, 1, need - 1]),
-        1 => need + source.between(1, 9),
-        _ => need,
+/// At most so many bytes of any value.
+fn random_bytes(source: &mut Source, most: usize) -> Vec<u8> {
+    let length = source.below(most + 1);
+    (0..length).map(|_| source.below(256) as u8).collect()
+}
+
+/// Characters of a scheme, in a number just below, at or above the limit.
+fn at_limit(source: &mut Source, scheme: Scheme) -> Vec<u8> {
+    let (mut label, characters) = match scheme {
+        Scheme::AltDude => (Vec::new(), altdude::CHARACTERS),
+        Scheme::Lace => (lace::MARK.to_vec(), lace::CHARACTERS),
+    };
+    let length = source.between(LABEL_MAX - 1, LABEL_MAX + 2);
+    label.resize_with(length, || source.pick(characters));
+    label
+}
+
+/// Label bytes for the firmware's face: of a scheme, lawful or damaged, or any.
+pub fn label_bytes(source: &mut Source, scheme: Scheme) -> Vec<u8> {
+    match source.below(16) {
+        0 => random_bytes(source, LABEL_MAX + 7),
+        1 => at_limit(source, scheme),
+        2 => {
+            let mut label = written(source, scheme);
+            label.truncate(source.below(label.len()));
+            label
+        }
+        3 => {
+            let mut label = written(source, scheme);
+            label.extend(random_bytes(source, LABEL_MAX));
+            label
+        }
+        4 if source.once_in(4) => Vec::new(),
+        _ => label(source, scheme),
+    }
+}
+
+/// A length for the buffer that a label is written to. The numbers are the
+/// scope paper's and not the implementation's, here and in the next one.
+pub fn label_room(source: &mut Source) -> usize {
+    match source.below(5) {
+        0 => source.pick(&[0, 1, 62, 64, 100]),
+        _ => 63,
+    }
+}
+
+/// A length for the buffer that a text is written to.
+pub fn text_room(source: &mut Source) -> usize {
+    match source.below(5) {
+        0 => source.pick(&[0, 1, 63, 126, 251, 253, 300]),
+        _ => 252,
     }
 }

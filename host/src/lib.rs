@@ -6,7 +6,11 @@
 
 pub mod altdude;
 pub mod book;
+pub mod calls;
 pub mod cases;
+pub mod compare;
+#[cfg(feature = "proved")]
+pub mod exported;
 pub mod face;
 pub mod gen;
 pub mod lace;

@@ -99,7 +99,7 @@ fn generated_calls_keep_the_rules() {
     for _ in 0..20_000 {
         let scheme = gen::scheme_number(&mut source);
         let text = gen::text_bytes(&mut source);
-        let mut label = vec![0x5A; gen::face_room(&mut source, 63)];
+        let mut label = vec![0x5A; gen::label_room(&mut source)];
         let answer = write(scheme, &text, &mut label);
         if answer < 1000 {
             let count = answer as usize;

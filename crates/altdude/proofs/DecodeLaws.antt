@@ -170,7 +170,7 @@ text-le m v (s ∷ l) =
     rw (adds-is, length-append)
     (omega (arith, adds-le s (nextRemembered m v s), text-le (nextRemembered m v s) (nextPending v s) l))
 
-text-fits : (l : List ℕ) → length (textOf l) ≤ length l
+pub text-fits : (l : List ℕ) → length (textOf l) ≤ length l
 unfolding textOf
 text-fits l = omega (arith, text-le 96 0 (map symbolOf l), length-map l symbolOf)
 

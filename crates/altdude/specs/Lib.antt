@@ -1,8 +1,6 @@
--- AltDUDE: symbols, the encoding, the rules of form, decoding, and what both entries answer.
+-- AltDUDE: symbols, the encoding, decoding, and what both entries answer.
 pub mod Symbols
 pub mod Encoding
-pub mod WellFormed
 pub mod Decoding
 pub mod Answer
-pub mod Causes
 pub mod Stepping

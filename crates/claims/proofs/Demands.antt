@@ -1,91 +1,19 @@
--- Demands 2 and 3 of any scheme follow from its facts, and both schemes have them.
-use Prim.Native.Nat.{ℕ, _≤_}
-use mathlib.Core.Path.{_≡_, refl, sym, ap, _∙_}
-use mathlib.Core.Logic.{_↔_}
-use mathlib.Core.List.{List, map}
-use lib.ListN.{length, take}
-use lib.Seq.{take-append-seam}
-use Rattle.basis.specs.Case.{small, SameButCase}
-use Rattle.basis.specs.Outcome.{done, bufferAfter}
-use Rattle.basis.specs.Scheme.{Scheme, Writable}
-use Rattle.basis.proofs.Case.{all-small, same-but-case}
-use Rattle.basis.proofs.Facts.{Facts}
-use Rattle.altdude.specs.Causes as altdude
-use Rattle.altdude.proofs.SchemeFacts.{altdude-facts}
+-- Demands 2 and 3 hold: both schemes have the facts, and the C interface hands them on.
+use Rattle.altdude_facts.specs.Causes as altdude
+use Rattle.altdude_facts.proofs.SchemeFacts.{altdude-facts}
 use Rattle.lace.specs.Octets.{isAllLdh}
-use Rattle.lace.specs.Causes as lace
-use Rattle.lace.proofs.SchemeFacts.{lace-facts}
-use Rattle.claims.specs.Demands.{Reads, Demand2Of, Demand3Of, Demand2, Demand3}
-
-module _ (s : Scheme) (f : Facts s) where
-  text-case : (l k : List ℕ) → map small l ≡ map small k → s .textOf l ≡ s .textOf k
-  text-case l k e = sym (f .text-small l) ∙ ap (s .textOf) e ∙ f .text-small k
-
-  -- a label whose text may be written and has it, case aside, is that text's
-  text-is : (t l : List ℕ) → Writable s t → SameButCase (s .labelOf t) l → s .textOf l ≡ t
-  text-is t l w e = sym (text-case (s .labelOf t) l (same-but-case (s .labelOf t) l .0 e)) ∙ f .text-back t w
-
-  count-is : (capacity n : ℕ) (l : List ℕ) → s .decodeOutcome capacity l ≡ done n → n ≡ length (s .textOf l)
-  count-is capacity n l e = f .decoding capacity l .succeeds n .0 e .1
-
-  accepted-formed : (capacity n : ℕ) (l : List ℕ) → 63 ≤ capacity → s .decodeOutcome capacity l ≡ done n → s .WellFormed l
-  accepted-formed capacity n l h e = f .formed capacity l h .0 (e ∙ ap done (count-is capacity n l e))
-
-  leaves-text : (buffer l : List ℕ) (n : ℕ) → s .decodeOutcome (length buffer) l ≡ done n
-      → take n (bufferAfter (s .decodeOutcome (length buffer) l) (s .textOf l) buffer) ≡ s .textOf l
-  unfolding bufferAfter
-  leaves-text buffer l n e = rw (e, count-is (length buffer) n l e) (take-append-seam (s .textOf l) _)
-
-  reads-text : (buffer l t : List ℕ) → Reads s buffer l t → t ≡ s .textOf l
-  reads-text buffer l t r = sym (r .leaves) ∙ leaves-text buffer l (r .count) (r .answers)
-
-  reads-formed : (buffer l t : List ℕ) → 63 ≤ length buffer → Reads s buffer l t → s .WellFormed l
-  reads-formed buffer l t h r = accepted-formed (length buffer) (r .count) l h (r .answers)
-
-  formed-reads : (buffer l : List ℕ) → 63 ≤ length buffer → s .WellFormed l → Reads s buffer l (s .textOf l)
-  formed-reads buffer l h w =
-      let e = f .formed (length buffer) l h .1 w in
-      record { count = length (s .textOf l); answers = e; leaves = leaves-text buffer l _ e }
-
-  spells : (l t : List ℕ) → s .WellFormed l → t ≡ s .textOf l → SameButCase (s .labelOf t) l
-  spells l t w e = same-but-case (s .labelOf t) l .1 (ap (map small) (ap (s .labelOf) e ∙ f .respelled l w) ∙ all-small l)
-
-  may-write : (l t : List ℕ) → s .WellFormed l → t ≡ s .textOf l → Writable s t
-  may-write l t w e = rw e (f .writable l w)
-
-  label-is-formed : (t l : List ℕ) → Writable s t → SameButCase (s .labelOf t) l → s .WellFormed l
-  label-is-formed t l w e = f .label-formed t l w (same-but-case (s .labelOf t) l .0 e)
-
-  -- equal texts are of labels with equal small forms, and conversely
-  same-text : (l k : List ℕ) → s .WellFormed l → s .WellFormed k → (s .textOf l ≡ s .textOf k) ↔ SameButCase l k
-  same-text l k w v = (
-    λ e. same-but-case l k .1 (sym (f .respelled l w) ∙ ap (s .labelOf) e ∙ f .respelled k v),
-    λ e. text-case l k (same-but-case l k .0 e),
-  )
-
-  demand2-of : Demand2Of s
-  demand2-of = record { encoding = f .encoding; decoding = f .decoding; reading = λ buffer l t h. (there buffer l t h, back buffer l t h) }
-    where
-      there : (buffer l t : List ℕ) → 63 ≤ length buffer → Reads s buffer l t → Writable s t × SameButCase (s .labelOf t) l
-      there buffer l t h r =
-          let w = reads-formed buffer l t h r in
-          let e = reads-text buffer l t r in
-          (may-write l t w e, spells l t w e)
-
-      back : (buffer l t : List ℕ) → 63 ≤ length buffer → Writable s t × SameButCase (s .labelOf t) l → Reads s buffer l t
-      back buffer l t h p = rw (text-is t l (p .0) (p .1)) at (formed-reads buffer l h (label-is-formed t l (p .0) (p .1)))
-
-  demand3-of : Demand3Of s
-  demand3-of = record {
-    accepted = λ buffer l h. (λ a. accepted-formed (length buffer) (a .0) l h (a .1), λ w. (length (s .textOf l), f .formed (length buffer) l h .1 w));
-    exists = λ buffer l h w. (s .textOf l, f .writable l w, spells l (s .textOf l) w refl, formed-reads buffer l h w, f .formed (length buffer) l h .1 w);
-    unique = λ l t u w a p b q. sym (text-is t l a p) ∙ text-is u l b q;
-    alike = λ buffer other l k t u h g r q.
-        rw (reads-text buffer l t r, reads-text other k u q) (same-text l k (reads-formed buffer l t h r) (reads-formed other k u g q));
-  }
+use Rattle.lace_facts.specs.Causes as lace
+use Rattle.lace_facts.proofs.SchemeFacts.{lace-facts}
+use Rattle.claims.specs.Demands.{Demand2, Demand3}
+use Rattle.claims.proofs.SchemeDemands.{demand2-of, demand3-of}
+use Rattle.claims.proofs.Interface.{at-interface}
 
 pub demand2 : Demand2
-demand2 = record { ofAltdude = demand2-of altdude.scheme altdude-facts; ofLace = demand2-of (lace.scheme isAllLdh) lace-facts }
+demand2 = record {
+  ofAltdude = demand2-of altdude.scheme altdude-facts;
+  ofLace = demand2-of (lace.scheme isAllLdh) lace-facts;
+  atInterface = at-interface;
+}
 
 pub demand3 : Demand3
 demand3 = record { ofAltdude = demand3-of altdude.scheme altdude-facts; ofLace = demand3-of (lace.scheme isAllLdh) lace-facts }

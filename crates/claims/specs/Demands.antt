@@ -1,17 +1,21 @@
--- Demands 2 and 3: what they say of a scheme, and that of both. The schemes are made of the definitions that the contracts cite, in
--- the specs/Causes.antt of altdude and of lace.
+-- Demands 2 and 3: what they say of a scheme, and that of both; and demand 2 at the C interface. The schemes are made of the definitions
+-- that the contracts cite, in the specs/Causes.antt of altdude_facts and of lace_facts.
 use Prim.Native.Nat.{ℕ, _≤_, _<_}
 use mathlib.Core.Path.{_≡_}
 use mathlib.Core.Logic.{_↔_}
 use mathlib.Core.List.{List, _∷_}
 use lib.ListN.{length, take}
+use Rattle.basis.specs.Rows.{AllBelow}
 use Rattle.basis.specs.Case.{SameButCase}
-use Rattle.basis.specs.Causes.{whole, Settles}
+use Rattle.basis.specs.Causes.{whole, NoCause, Settles}
 use Rattle.basis.specs.Outcome.{done, bufferAfter}
 use Rattle.basis.specs.Scheme.{Scheme, Writable}
-use Rattle.altdude.specs.Causes as altdude
+use Rattle.altdude_facts.specs.Causes as altdude
 use Rattle.lace.specs.Octets.{isAllLdh}
-use Rattle.lace.specs.Causes as lace
+use Rattle.lace_facts.specs.Causes as lace
+use Rattle.scheme.specs.Naming.{numberNames}
+use Rattle.firmware.specs.Answer.{writeOutcome, writtenLabel, readOutcome, readText}
+use Rattle.firmware.specs.Causes.{UnknownNumber, causesBy, bytesCauses, writeCauses, readCauses}
 
 module _ (s : Scheme) where
   -- decoding the bytes l into the buffer answers
@@ -43,10 +47,28 @@ module _ (s : Scheme) where
     -- two accepted labels read alike exactly when they differ at most in the case of A to Z
     pub alike : (buffer other l k t u : List ℕ) → 63 ≤ length buffer → 63 ≤ length other → Reads buffer l t → Reads other k u → (t ≡ u) ↔ SameButCase l k
 
--- demand 2 of both schemes
+-- the C interface: reading the bytes l under a number into the buffer answers, and leaves the bytes of a text before its count
+pub record ReadsBytes (number : ℕ) (buffer l bytes : List ℕ) : Type 0 where
+  pub count : ℕ
+  pub answers : readOutcome number (length buffer) l ≡ done count
+  pub leaves : take count (bufferAfter (readOutcome number (length buffer) l) (readText number l) buffer) ≡ bytes
+
+-- a text of bytes may be written under a number: no cause, capacity aside, stands against it
+abbrev pub MayWrite : ℕ → List ℕ → Type 0
+MayWrite number bytes = NoCause (whole 11 (UnknownNumber number) ∷ causesBy (numberNames number) (λ s. bytesCauses s bytes))
+
+-- demand 2 at the C interface
+pub record Demand2AtInterface : Type 0 where
+  pub writing : (number capacity : ℕ) (bytes : List ℕ) → Settles (writeCauses number capacity bytes) (length (writtenLabel number bytes)) (writeOutcome number capacity bytes)
+  pub reading : (number capacity : ℕ) (l : List ℕ) → Settles (readCauses number capacity l) (length (readText number l)) (readOutcome number capacity l)
+  pub back : (number : ℕ) (buffer l bytes : List ℕ) → 252 ≤ length buffer → AllBelow 256 bytes
+      → ReadsBytes number buffer l bytes ↔ (MayWrite number bytes × SameButCase (writtenLabel number bytes) l)
+
+-- demand 2 of both schemes, and carried to the C interface
 pub record Demand2 : Type 0 where
   pub ofAltdude : Demand2Of altdude.scheme
   pub ofLace : Demand2Of (lace.scheme isAllLdh)
+  pub atInterface : Demand2AtInterface
 
 -- demand 3 of both schemes
 pub record Demand3 : Type 0 where

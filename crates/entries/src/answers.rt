@@ -1,102 +1,77 @@
-// An entry's answer as numbers.
+// An entry's answer, written as numbers at the front of an answer line: code, position and count.
 use basis::BytesAnswer;
 use basis::ErrorCode;
 use nametable::EntryAnswer;
 use nametable::TableAnswer;
-use scheme::Scheme;
 use utf16::PointsAnswer;
 use utf16::UnitsAnswer;
 
-// Code, position and count; the code of a success is 0.
-pub(crate) struct Answer {
-    pub(crate) code: u32,
-    pub(crate) position: usize,
-    pub(crate) count: usize,
+// Writes a space and a number.
+fn write_next(number: u64) {
+    io::write_all(1, b" ");
+    io::print_decimal(1, number);
 }
 
-// A success with its count.
-pub(crate) fn counted(count: usize) -> Answer {
-    Answer {
-        code: 0,
-        position: 0,
-        count: count,
-    }
+// Writes a success, whose code is 0, with its count.
+fn write_count(count: usize) {
+    io::write_all(1, b"0 0");
+    write_next(count as u64);
 }
 
-// An error with its code and position.
-pub(crate) fn refused(code: ErrorCode, position: usize) -> Answer {
-    Answer {
-        code: basis::code_number(code),
-        position: position,
-        count: 0,
-    }
+// Writes an error, whose count is 0, with its code and position.
+fn write_error(code: ErrorCode, position: usize) {
+    io::print_decimal(1, basis::code_number(code) as u64);
+    write_next(position as u64);
+    write_next(0);
 }
 
-// An answer in bytes.
-pub(crate) fn of_bytes(answer: BytesAnswer) -> Answer {
+// Writes an answer in bytes.
+pub(crate) fn write_bytes(answer: BytesAnswer) {
     match answer {
-        BytesAnswer::Bytes(count) => counted(count.0),
-        BytesAnswer::Error { code, position } => refused(code, position),
+        BytesAnswer::Bytes(count) => write_count(count.0),
+        BytesAnswer::Error { code, position } => write_error(code, position),
     }
 }
 
-// An answer in points.
-pub(crate) fn of_points(answer: PointsAnswer) -> Answer {
+// Writes an answer in points.
+pub(crate) fn write_points(answer: PointsAnswer) {
     match answer {
-        PointsAnswer::Points(count) => counted(count.0),
-        PointsAnswer::Error { code, position } => refused(code, position),
+        PointsAnswer::Points(count) => write_count(count.0),
+        PointsAnswer::Error { code, position } => write_error(code, position),
     }
 }
 
-// An answer in units.
-pub(crate) fn of_units(answer: UnitsAnswer) -> Answer {
+// Writes an answer in units.
+pub(crate) fn write_units(answer: UnitsAnswer) {
     match answer {
-        UnitsAnswer::Units(count) => counted(count.0),
-        UnitsAnswer::Error { code, position } => refused(code, position),
+        UnitsAnswer::Units(count) => write_count(count.0),
+        UnitsAnswer::Error { code, position } => write_error(code, position),
     }
 }
 
-// An answer in entries.
-pub(crate) fn of_table(answer: TableAnswer) -> Answer {
+// Writes an answer in entries.
+pub(crate) fn write_table(answer: TableAnswer) {
     match answer {
-        TableAnswer::Entries(count) => counted(count),
-        TableAnswer::Error { code, position } => refused(code, position),
+        TableAnswer::Entries(count) => write_count(count),
+        TableAnswer::Error { code, position } => write_error(code, position),
     }
 }
 
-// Answer, reader and scheme of an entry; reader and scheme are 0 on an error.
-pub(crate) struct EntryNumbers {
-    pub(crate) answer: Answer,
-    pub(crate) reader: u16,
-    pub(crate) scheme: u32,
-}
-
-// An entry with its reader, its scheme and its count of points.
-fn found(reader: u16, scheme: Scheme, count: usize) -> EntryNumbers {
-    EntryNumbers {
-        answer: counted(count),
-        reader: reader,
-        scheme: scheme::number(scheme),
-    }
-}
-
-// No entry.
-fn not_found(code: ErrorCode, position: usize) -> EntryNumbers {
-    EntryNumbers {
-        answer: refused(code, position),
-        reader: 0,
-        scheme: 0,
-    }
-}
-
-// An answer with an entry.
-pub(crate) fn of_entry(answer: EntryAnswer) -> EntryNumbers {
+// Writes an answer with an entry, and then its reader and its scheme, which are 0 on an error.
+pub(crate) fn write_entry(answer: EntryAnswer) {
     match answer {
         EntryAnswer::Entry {
             reader,
             scheme,
             count,
-        } => found(reader, scheme, count.0),
-        EntryAnswer::Error { code, position } => not_found(code, position),
+        } => {
+            write_count(count.0);
+            write_next(reader as u64);
+            write_next(scheme::number(scheme) as u64);
+        }
+        EntryAnswer::Error { code, position } => {
+            write_error(code, position);
+            io::write_all(1, b" 0 0");
+        }
     }
 }

@@ -1,99 +1,113 @@
-// Rows of numbers and of bytes, read from what follows a word into a lent row, and counted.
+// Rows of numbers, read from what follows a word into a lent row of each width.
 use crate::words;
 use crate::words::Parsed;
-ghost use Prim.Native.Nat.{_+_, _*_, _≤_, _<_};
+ghost use mathlib.Core.Path.{_≡_};
+ghost use Prim.Native.Nat.{_≤_, _<_};
 ghost use lib.ListN.{length};
 
-// The number that the word after a space spells, which is to be at most the limit.
-fn number_between(text: &[u8], space: usize, end: usize, limit: usize) -> Parsed
-    requires { ⌜ (space < end) × (end ≤ length (now text)) × (16 ≤ limit) ⌝ }
-    ensures { λ r. ⌜ r .value ≤ limit ⌝ }
+// A row of bytes with room for the longest.
+pub(crate) fn bytes() -> [u8; 33600]
+    ensures { λ r. ⌜ 33600 ≡ length r ⌝ }
 {
-    let start = space + 1;
-    words::hexadecimal(&text[start..end], limit)
+    [0; 33600]
 }
 
-// Reads words to the end of the text as numbers up to the limit.
-pub(crate) fn read_numbers(text: &[u8], limit: usize, row: &mut [u32]) -> Parsed
-    requires { ⌜ (16 ≤ limit) × (limit ≤ 4294967295) ⌝ }
-    ensures { λ r. ⌜ r .value ≤ length (now (row .entry)) ⌝ }
+// A row of units with room for the longest.
+pub(crate) fn units() -> [u16; 33600]
+    ensures { λ r. ⌜ 33600 ≡ length r ⌝ }
 {
-    let mut count = 0;
-    let mut at = 0;
-    while at < text.len() {
-        if row.len() <= count {
-            return words::bad();
-        }
-        let end = words::word_end(text, at + 1);
-        let number = number_between(text, at, end, limit);
-        if !number.good {
-            return words::bad();
-        }
-        row[count] = number.value as u32;
-        count += 1;
-        at = end;
+    [0; 33600]
+}
+
+// A row of points with room for the longest.
+pub(crate) fn points() -> [u32; 33600]
+    ensures { λ r. ⌜ 33600 ≡ length r ⌝ }
+{
+    [0; 33600]
+}
+
+// Whether a row of pairs is wanted where there is none, not even `-`.
+fn lacks_pairs(text: &[u8], pairs: bool) -> bool {
+    if !pairs {
+        return false;
     }
-    words::good(count)
+    text.len() < 2
 }
 
-// Stores numbers below 65,536 as units.
-pub(crate) fn store_units(numbers: &[u32], units: &mut [u16])
-    requires { ⌜ length (now numbers) ≤ length (now units) ⌝ }
+// The index where the numbers of a row begin: behind the space in front of pairs, and at the end of an empty row.
+fn first(text: &[u8], pairs: bool) -> usize
+    ensures { λ r. ⌜ r ≤ length (now (text .entry)) ⌝ }
 {
-    let mut i = 0;
-    while i < numbers.len() {
-        units[i] = low_half(numbers[i]);
-        i += 1;
+    if text.len() == 0 {
+        return 0;
     }
-}
-
-// The number's low 16 bits.
-fn low_half(number: u32) -> u16 {
-    (number % 65536) as u16
-}
-
-// Reads the one word of the text, pairs of digits or `-` for no byte, as bytes.
-pub(crate) fn read_bytes(text: &[u8], row: &mut [u8]) -> Parsed
-    ensures { λ r. ⌜ r .value ≤ length (now (row .entry)) ⌝ }
-{
-    if text.len() < 2 {
-        return words::bad();
+    if !pairs {
+        return 0;
     }
     if words::same(text, b" -") {
-        return words::good(0);
+        return text.len();
     }
-    if text.len() % 2 == 0 {
-        return words::bad();
-    }
-    read_pairs(&text[1..], row)
+    1
 }
 
-// Reads pairs of digits as bytes.
-fn read_pairs(word: &[u8], row: &mut [u8]) -> Parsed
-    ensures { λ r. ⌜ r .value ≤ length (now (row .entry)) ⌝ }
+// The number at an index: a pair of digits, or the word after a space.
+fn number_at(text: &[u8], at: usize, pairs: bool, limit: usize) -> Parsed
+    requires { ⌜ (at < length (now text)) × (16 ≤ limit) ⌝ }
+    ensures { λ r. ⌜ (r .value ≤ limit) × (at < r .end) × (r .end ≤ length (now (text .entry))) ⌝ }
 {
-    let count = word.len() / 2;
-    if row.len() < count {
-        return words::bad();
+    if !pairs {
+        return words::number_after(text, at, 16, 8, limit);
     }
-    let mut i = 0;
-    while i < count {
-        let pair = pair_at(word, i);
-        if !pair.good {
-            return words::bad();
+    if text.len() - at < 2 {
+        return words::no_number(text.len());
+    }
+    words::number(text, at, at + 2, 16, 2, limit)
+}
+
+// Stores a number in each width at an index of the row, if there is room.
+fn store(
+    number: usize,
+    at: usize,
+    room: usize,
+    bytes: &mut [u8],
+    units: &mut [u16],
+    points: &mut [u32],
+)
+    requires { ⌜ (room ≤ length (now bytes)) × (room ≤ length (now units)) × (room ≤ length (now points)) ⌝ }
+{
+    if at < room {
+        bytes[at] = (number % 0x100) as u8;
+        units[at] = (number % 0x1_0000) as u16;
+        points[at] = (number % 0x1_0000_0000) as u32;
+    }
+}
+
+// Reads a row to the end of the text, as pairs of digits (`-` for an empty row) or as words, with no number above the limit. Answers
+// how many numbers it has, or the largest count for what is no row.
+pub(crate) fn read_row(
+    text: &[u8],
+    pairs: bool,
+    limit: usize,
+    room: usize,
+    bytes: &mut [u8],
+    units: &mut [u16],
+    points: &mut [u32],
+) -> usize
+    requires { ⌜ (16 ≤ limit) × (room ≤ length (now bytes)) × (room ≤ length (now units)) × (room ≤ length (now points)) ⌝ }
+{
+    if lacks_pairs(text, pairs) {
+        return usize::MAX;
+    }
+    let mut count = 0;
+    let mut at = first(text, pairs);
+    while at < text.len() {
+        let number = number_at(text, at, pairs, limit);
+        if !number.good {
+            return usize::MAX;
         }
-        row[i] = pair.value as u8;
-        i += 1;
+        store(number.value, count, room, bytes, units, points);
+        count += 1;
+        at = number.end;
     }
-    words::good(count)
-}
-
-// The number that a pair of digits spells.
-fn pair_at(word: &[u8], i: usize) -> Parsed
-    requires { ⌜ 2 * i + 2 ≤ length (now word) ⌝ }
-    ensures { λ r. ⌜ r .value ≤ 255 ⌝ }
-{
-    let start = 2 * i;
-    let end = start + 2;
-    words::hexadecimal(&word[start..end], 255)
+    count
 }

@@ -1,37 +1,31 @@
 // The words of a line, and the numbers that they spell.
-ghost use Prim.Native.Nat.{_+_, _*_, _≤_, _<_};
+ghost use mathlib.Core.Path.{_≡_};
+ghost use Prim.Native.Nat.{_≤_, _<_};
 ghost use lib.ListN.{length};
+ghost use Rattle.io.specs.Counts.{Counts};
 
-// What a word or a row of words spells: a number or a count, if it is well written.
+// A number, if it is well written, and the index after its last digit.
 pub(crate) struct Parsed {
     pub(crate) good: bool,
     pub(crate) value: usize,
+    pub(crate) end: usize,
 }
 
-// Nothing.
-pub(crate) fn bad() -> Parsed
-    ensures { λ r. ⌜ r .value ≤ 0 ⌝ }
+// No number, up to an index.
+pub(crate) fn no_number(end: usize) -> Parsed
+    ensures { λ r. ⌜ (r .value ≡ 0) × (r .end ≡ end) ⌝ }
 {
     Parsed {
         good: false,
         value: 0,
-    }
-}
-
-// A value.
-pub(crate) fn good(value: usize) -> Parsed
-    ensures { λ r. ⌜ r .value ≤ value ⌝ }
-{
-    Parsed {
-        good: true,
-        value: value,
+        end: end,
     }
 }
 
 // The index of the first space from an index on, or the length.
 pub(crate) fn word_end(line: &[u8], from: usize) -> usize
     requires { ⌜ from ≤ length (now line) ⌝ }
-    ensures { λ r. ⌜ (from ≤ r) × (r ≤ length (now (line .entry))) ⌝ }
+    ensures { λ r. ⌜ (from ≤ r) × Counts r (now (line .entry)) ⌝ }
 {
     let mut i = from;
     while i < line.len() {
@@ -69,56 +63,87 @@ fn digit_value(byte: u8) -> usize
     }
 }
 
-// The number with one digit more, if it is at most the limit.
-fn with_digit(number: usize, base: usize, digit: usize, limit: usize) -> Parsed
+// The number with one digit more, which is to be at most the limit.
+fn with_digit(number: Parsed, base: usize, digit: usize, limit: usize) -> Parsed
     requires { ⌜ (0 < base) × (base ≤ 16) × (16 ≤ limit) ⌝ }
-    ensures { λ r. ⌜ r .value ≤ limit ⌝ }
+    ensures { λ r. ⌜ (r .value ≤ limit) × (r .end ≡ number .end) ⌝ }
 {
     if base <= digit {
-        return bad();
+        return no_number(number.end);
     }
-    if (limit - digit) / base < number {
-        return bad();
+    if (limit - digit) / base < number.value {
+        return no_number(number.end);
     }
-    good(number * base + digit)
+    Parsed {
+        good: number.good,
+        value: number.value * base + digit,
+        end: number.end,
+    }
 }
 
-// The number of at most so many digits that a word spells, if it is at most the limit.
-fn number(word: &[u8], base: usize, digits: usize, limit: usize) -> Parsed
-    requires { ⌜ (0 < base) × (base ≤ 16) × (16 ≤ limit) ⌝ }
-    ensures { λ r. ⌜ r .value ≤ limit ⌝ }
+// Whether a word has a digit, and at most so many.
+fn has_digits(start: usize, end: usize, most: usize) -> bool {
+    if end <= start {
+        return false;
+    }
+    end - start <= most
+}
+
+// The number of at most so many digits that stands between two indexes, which is to be at most the limit.
+pub(crate) fn number(
+    line: &[u8],
+    start: usize,
+    end: usize,
+    base: usize,
+    most: usize,
+    limit: usize,
+) -> Parsed
+    requires { ⌜ (end ≤ length (now line)) × (0 < base) × (base ≤ 16) × (16 ≤ limit) ⌝ }
+    ensures { λ r. ⌜ (r .value ≤ limit) × (r .end ≡ end) ⌝ }
 {
-    if word.len() == 0 {
-        return bad();
-    }
-    if digits < word.len() {
-        return bad();
-    }
-    let mut value = 0;
-    let mut i = 0;
-    while i < word.len() {
-        let more = with_digit(value, base, digit_value(word[i]), limit);
-        if !more.good {
-            return bad();
-        }
-        value = more.value;
+    let mut number = Parsed {
+        good: has_digits(start, end, most),
+        value: 0,
+        end: end,
+    };
+    let mut i = start;
+    while i < end {
+        number = with_digit(number, base, digit_value(line[i]), limit);
         i += 1;
     }
-    good(value)
+    number
 }
 
-// A count, a capacity or an index: 1 to 20 decimal digits.
-pub(crate) fn decimal(word: &[u8], limit: usize) -> Parsed
-    requires { ⌜ 16 ≤ limit ⌝ }
-    ensures { λ r. ⌜ r .value ≤ limit ⌝ }
+// The number that the word after a space spells.
+pub(crate) fn number_after(
+    line: &[u8],
+    space: usize,
+    base: usize,
+    most: usize,
+    limit: usize,
+) -> Parsed
+    requires { ⌜ (space < length (now line)) × (0 < base) × (base ≤ 16) × (16 ≤ limit) ⌝ }
+    ensures { λ r. ⌜ (r .value ≤ limit) × (space < r .end) × (r .end ≤ length (now (line .entry))) ⌝ }
 {
-    number(word, 10, 20, limit)
+    let start = space + 1;
+    let end = word_end(line, start);
+    number(line, start, end, base, most, limit)
 }
 
-// A point, a unit or a byte: 1 to 8 hexadecimal capitals.
-pub(crate) fn hexadecimal(word: &[u8], limit: usize) -> Parsed
-    requires { ⌜ 16 ≤ limit ⌝ }
-    ensures { λ r. ⌜ r .value ≤ limit ⌝ }
+// A capacity, a count or an index, 1 to 20 decimal digits, where one is wanted; else 0, and no word.
+pub(crate) fn decimal_after(line: &[u8], space: usize, wanted: bool, limit: usize) -> Parsed
+    requires { ⌜ (space ≤ length (now line)) × (16 ≤ limit) ⌝ }
+    ensures { λ r. ⌜ (r .value ≤ limit) × (r .end ≤ length (now (line .entry))) ⌝ }
 {
-    number(word, 16, 8, limit)
+    if !wanted {
+        return Parsed {
+            good: true,
+            value: 0,
+            end: space,
+        };
+    }
+    if line.len() <= space {
+        return no_number(space);
+    }
+    number_after(line, space, 10, 20, limit)
 }

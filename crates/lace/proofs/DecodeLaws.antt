@@ -171,7 +171,7 @@ module _ (os : List ℕ) where
   unfolding unitsOf
   units-runs other = rw (ne-eqb _ _ other)
 
-  units-le : length (unitsOf os) ≤ length os
+  pub units-le : length (unitsOf os) ≤ length os
   units-le =
       cases (eqb (at os 0) 255)
       (λ e. rw (units-ff (eqb-true _ _ e)) (omega (arith, pairs-le (drop 1 os), length-drop 1 os)))

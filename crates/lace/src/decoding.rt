@@ -16,7 +16,7 @@ ghost use Rattle.lace.specs.Stepping.{octetsOutcome, errorAfterPrefix};
 
 // A place among runs: before a count, after a run of this high octet (256 where none was); before the high octet of a run of so
 // many; before a low octet, with so many to come under this high octet.
-pub(crate) enum Place {
+pub enum Place {
     Count(u16),
     High(u16, u8),
     Low(u8, u8),

@@ -1,5 +1,5 @@
 // LACE: encoding a text as a label, and decoding a label.
-mod decoding;
+pub mod decoding;
 mod encoding;
 mod octets;
 mod prefix;

@@ -5,7 +5,7 @@ use mathlib.Core.Bool.{Bool, true, false}
 use mathlib.Core.List.{List}
 use lib.Dec.{eqb}
 use lib.ListN.{length, take, drop, length-drop}
-use lib.Seq.{take-all, getD-drop}
+use lib.Seq.{length-take-le, take-all, getD-drop}
 use borrow.Author.Tests.{lt-ltb, le-ltb, not-false}
 use native.Mathlib.Omega.{arith}
 use Rattle.basis.specs.Tests.{every, everyIn, within}
@@ -47,6 +47,11 @@ filled-part e zeros long short z =
     = take-all (length e - (4 + at e 3)) (drop (4 + at e 3) e) (simp length-drop (omega arith)) in
     let size : length (drop (4 + at e 3) e) ≡ 63 - at e 3 = length-drop (4 + at e 3) e ∙ omega arith in
     rw (z, part, size) (every-same (63 - at e 3) (λ i. eqb (at e (4 + at e 3 + i)) 0) (λ i. eqb (at (drop (4 + at e 3) e) i) 0) (λ i h. rw (getD-drop (4 + at e 3) e i 0)))
+
+-- the label of a whole entry has as many bytes as its length says
+pub label-long : (e : List ℕ) → length e ≡ entryLength → lengthOf e ≤ labelCapacity → length (labelIn e) ≡ lengthOf e
+unfolding labelIn
+label-long e long short = length-take-le (lengthOf e) (drop 4 e) (simp length-drop (omega arith))
 
 -- the label, as the part of the entry that is read
 pub label-part : (e : List ℕ) → take (labelStart + at e 3 - labelStart) (drop labelStart e) ≡ labelIn e

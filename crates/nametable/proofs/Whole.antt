@@ -4,12 +4,14 @@ use mathlib.Core.Path.{_≡_, refl, sym, ap, _∙_}
 use mathlib.Core.List.{List, _++_}
 use lib.Dec.{ltb}
 use lib.ListN.{length, drop, length-append}
+use borrow.Author.Tests.{ltb-true, ltb-false}
 use native.Mathlib.Omega.{arith}
 use Rattle.basis.specs.Outcome.{Outcome, done, refused, bufferAfter}
 use Rattle.basis.proofs.Tests.{cases}
 use Rattle.basis.proofs.Outcome.{done-not-refused, done-count}
 use Rattle.scheme.specs.Naming.{numberOf}
 use Rattle.scheme.specs.Coding.{decodeOutcome}
+use Rattle.scheme.proofs.Capacity.{decoded-short}
 use Rattle.nametable.specs.Format.{entryAt, readerOf, labelIn, schemeIn}
 use Rattle.nametable.specs.Answer.{readOutcome, found, entryText, entryIn, findOutcome, counted}
 use Rattle.nametable.proofs.EntryLaws.{good-decodes}
@@ -40,6 +42,27 @@ found-count t index capacity n e =
     judged (done count) e =
         cases (ltb index count)
         (λ c. done-count refl (sym (rw c at e)))
+        (λ c. absurd (done-not-refused (rw c at e) refl))
+
+-- it is at most 63, and the buffer had room for so many
+pub found-short : (t : List ℕ) (index capacity n : ℕ) → counted (findOutcome t index capacity) ≡ done n → (n ≤ 63) × (63 ≤ capacity)
+unfolding findOutcome entryIn counted entryText
+found-short t index capacity n e =
+    cases (ltb capacity 63)
+    (λ c. absurd (done-not-refused (rw c at e) refl))
+    (λ c. judged (ltb-false capacity 63 c) (readOutcome t) refl (rw c at e))
+  where
+    count : n ≡ length (entryText t index)
+    count = found-count t index capacity n e
+
+    judged : 63 ≤ capacity → (verdict : Outcome) → readOutcome t ≡ verdict → counted (entryIn t index verdict) ≡ done n → (n ≤ 63) × (63 ≤ capacity)
+    judged room (refused number position) r e = absurd (done-not-refused e refl)
+    judged room (done total) r e =
+        cases (ltb index total)
+        (λ c.
+        let d = entry-decodes t total index capacity r (ltb-true index total c) room in
+        let s = decoded-short (schemeIn (entryAt t index)) capacity (length (entryText t index)) (labelIn (entryAt t index)) d in
+        (omega (arith, count), room))
         (λ c. absurd (done-not-refused (rw c at e) refl))
 
 -- so it is at most the room that was lent

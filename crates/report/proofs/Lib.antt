@@ -4,3 +4,4 @@ pub mod Writes
 pub mod DigitLaws
 pub mod PointLaws
 pub mod LineLaws
+pub mod Widths

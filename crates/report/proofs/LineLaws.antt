@@ -36,7 +36,7 @@ unfolding refusedAtLine atWord
 refused-at-length code position =
     omega (arith, length-append (refusedNumber code) (atWord ++ (digitsOf 10 1 position ++ (10 ∷ []))), length-append (digitsOf 10 1 position) (10 ∷ []))
 
--- the two returns of a writer: the answer, and the buffer afterwards
+-- the two returns of a writer: the answer, and the buffer afterwards; and what its caller has of them
 module _ (line old : List ℕ) where
   abbrev Answered : Outcome → List ℕ → Type 0
   Answered answer now = (answer ≡ lineOutcome line (length old)) × (now ≡ bufferAfter (lineOutcome line (length old)) line old)
@@ -54,3 +54,11 @@ module _ (line old : List ℕ) where
       done-leaves (lineOutcome line (length old)) line old now n
       (simp (le-ltb (length old) (length line) h) (ap done e))
       (s .stores ∙ sets-front line old h ∙ ap (λ (k : ℕ). line ++ drop k old) e)
+
+  -- a line that has room is written whole
+  pub line-written : length line ≤ length old → (answer : Outcome) (now : List ℕ) → answer ≡ lineOutcome line (length old) → now ≡ bufferAfter (lineOutcome line (length old)) line old
+      → (answer ≡ done (length line)) × (now ≡ line ++ drop (length line) old)
+  unfolding lineOutcome refusedIf bufferAfter
+  line-written h answer now a b =
+      let o : lineOutcome line (length old) ≡ done (length line) = rw (le-ltb (length old) (length line) h) in
+      (a ∙ o, b ∙ rw o)

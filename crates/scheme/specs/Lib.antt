@@ -1,3 +1,4 @@
--- What names a scheme, and encoding and decoding by scheme.
+-- What names a scheme, encoding and decoding by scheme, and the schemes of the demands.
 pub mod Naming
 pub mod Coding
+pub mod Schemes

@@ -11,13 +11,13 @@ use borrow.Author.Tests.{lt-ltb, le-ltb, ltb-false}
 use native.Mathlib.Omega.{arith}
 use Rattle.basis.specs.Tests.{firstBelow, IsFirst}
 use Rattle.basis.specs.Outcome.{Outcome, done, refused, refusedIf}
-use Rattle.basis.specs.Causes.{whole, placed, Settles}
+use Rattle.basis.specs.Causes.{whole, placed, Absent, Settles}
 use Rattle.basis.proofs.Tests.{by-lt, ltb-iff, none-iff, first-le}
-use Rattle.basis.proofs.Causes.{settle-whole, settle-first, settle-done}
+use Rattle.basis.proofs.Causes.{settle-whole, settle-first, settle-done, absent-first}
 use Rattle.utf16.specs.Points.{isPoint, isText, firstNotPoint}
 use Rattle.utf16.specs.Units.{toUnits, toPoints, firstUnpaired}
 use Rattle.utf16.specs.Answer.{converted, toUnitsOutcome, toPointsOutcome}
-use Rattle.utf16.specs.Causes.{toUnitsCauses, toPointsCauses}
+use Rattle.utf16.specs.Causes.{NotAPointAt, toUnitsCauses, toPointsCauses}
 
 -- what the converter's order of refusals comes to
 module _ (given count needed capacity first number result : ℕ) where
@@ -65,6 +65,11 @@ to-points-settled us n c = converted-settled us n n c 10 _ _
 text-iff : (ps : List ℕ) → (firstNotPoint ps ≡ length ps) ↔ (isText ps ≡ true)
 unfolding firstNotPoint isText
 text-iff ps = none-iff (length ps) (λ i. isPoint (getD ps i 0))
+
+-- a row in which no number is no point is a text
+pub points-text : (ps : List ℕ) → Absent (placed 4 (NotAPointAt ps)) → isText ps ≡ true
+unfolding firstNotPoint
+points-text ps absent = text-iff ps .0 (absent-first (length ps) (λ i. not (isPoint (getD ps i 0))) absent)
 
 pub text-judged : (ps : List ℕ) (n found : ℕ) → n ≤ length ps → found ≡ firstNotPoint (take n ps) → n ≤ found → isText (take n ps) ≡ true
 unfolding firstNotPoint

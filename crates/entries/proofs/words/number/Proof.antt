@@ -1,27 +1,18 @@
 -- `words::number` meets its contract: the value so far is at most the limit.
 use Prim.Native.Nat.{_-_, _≤_}
-use lib.ListN.{length}
+use mathlib.Core.Path.{_≡_}
 use borrow.Author.Needs.{needs}
 use Rattle.entries.proofs.words.number.Statement.{statement}
 use Rattle.entries.proofs.words.number.Tie as tie
 
 abbrev Inv-loop : tie.InvT-loop
-Inv-loop word base digits limit value₀ i₀ value i = value ≤ limit
+Inv-loop line start end base most limit number₀ i₀ number i = (number .value ≤ limit) × (number .end ≡ end)
 
 abbrev μ-loop : tie.MeasureT-loop
-μ-loop word base digits limit value₀ i₀ value i = length word - i
+μ-loop line start end base most limit number₀ i₀ number i = end - i
 
-bad-requires : tie.Need-bad-requires Inv-loop μ-loop
-bad-requires c κs = search needs
-
-returns : tie.Need-returns Inv-loop μ-loop
-returns c = search needs
-
-bad-requires-2 : tie.Need-bad-requires-2 Inv-loop μ-loop
-bad-requires-2 c κs = search needs
-
-returns-2 : tie.Need-returns-2 Inv-loop μ-loop
-returns-2 c = search needs
+has-digits-requires : tie.Need-has-digits-requires Inv-loop μ-loop
+has-digits-requires c κs = search needs
 
 loop-holds : tie.Need-loop-holds Inv-loop μ-loop
 loop-holds c = search needs
@@ -35,12 +26,6 @@ digit-value-requires c κs = search needs
 with-digit-requires : tie.Need-with-digit-requires Inv-loop μ-loop
 with-digit-requires c κs = search needs
 
-bad-requires-3 : tie.Need-bad-requires-3 Inv-loop μ-loop
-bad-requires-3 c κs = search needs
-
-returns-3 : tie.Need-returns-3 Inv-loop μ-loop
-returns-3 c = search needs
-
 add-i : tie.Need-add-i Inv-loop μ-loop
 add-i c = search needs
 
@@ -50,11 +35,8 @@ loop-less c = search needs
 loop-again : tie.Need-loop-again Inv-loop μ-loop
 loop-again c = search needs
 
-good-requires : tie.Need-good-requires Inv-loop μ-loop
-good-requires c κs = search needs
-
-returns-4 : tie.Need-returns-4 Inv-loop μ-loop
-returns-4 c = search needs
+returns : tie.Need-returns Inv-loop μ-loop
+returns c = search needs
 
 pub number-spec : {M : Type 1} → statement M
 number-spec =
@@ -62,18 +44,12 @@ number-spec =
     (tie.spec
     Inv-loop
     μ-loop
-    bad-requires
-    returns
-    bad-requires-2
-    returns-2
+    has-digits-requires
     loop-holds
     shared-slice-read-digit-value
     digit-value-requires
     with-digit-requires
-    bad-requires-3
-    returns-3
     add-i
     loop-less
     loop-again
-    good-requires
-    returns-4)
+    returns)

@@ -1,12 +1,12 @@
 -- `words::with_digit` meets its contract: the number with one digit more is at most the limit.
 use native.Mathlib.Omega.{arith}
-use Rattle.entries.proofs.Digits.{more-within}
 use borrow.Author.Needs.{needs}
+use Rattle.entries.proofs.Digits.{more-within}
 use Rattle.entries.proofs.words.with_digit.Statement.{statement}
 use Rattle.entries.proofs.words.with_digit.Tie as tie
 
-bad-requires : tie.Need-bad-requires
-bad-requires c κs = search needs
+no-number-requires : tie.Need-no-number-requires
+no-number-requires c κs = search needs
 
 returns : tie.Need-returns
 returns c = search needs
@@ -17,35 +17,31 @@ sub-if2 c = search needs
 div-if2 : tie.Need-div-if2
 div-if2 c = search needs
 
-bad-requires-2 : tie.Need-bad-requires-2
-bad-requires-2 c κs = search needs
+no-number-requires-2 : tie.Need-no-number-requires-2
+no-number-requires-2 c κs = search needs
 
 returns-2 : tie.Need-returns-2
 returns-2 c = search needs
 
-mul-good : tie.Need-mul-good
-mul-good c = omega (arith, more-within (c .before .before .args .number) (c .before .before .args .base) (c .before .before .args .digit) (c .before .before .args .limit) (omega arith) (omega arith) (omega arith))
+mul-t6 : tie.Need-mul-t6
+mul-t6 c = omega (arith, more-within (c .before .before .before .before .args .number .value) (c .before .before .before .before .args .base) (c .before .before .before .before .args .digit) (c .before .before .before .before .args .limit) (omega arith) (omega arith) (omega arith))
 
-add-good : tie.Need-add-good
-add-good c = omega (arith, more-within (c .before .before .args .number) (c .before .before .args .base) (c .before .before .args .digit) (c .before .before .args .limit) (omega arith) (omega arith) (omega arith))
-
-good-requires : tie.Need-good-requires
-good-requires c κs = search needs
+add-t7 : tie.Need-add-t7
+add-t7 c = omega (arith, more-within (c .before .before .before .before .args .number .value) (c .before .before .before .before .args .base) (c .before .before .before .before .args .digit) (c .before .before .before .before .args .limit) (omega arith) (omega arith) (omega arith))
 
 returns-3 : tie.Need-returns-3
-returns-3 c = omega (arith, more-within (c .before .before .before .args .number) (c .before .before .before .args .base) (c .before .before .before .args .digit) (c .before .before .before .args .limit) (omega arith) (omega arith) (omega arith))
+returns-3 c = (more-within (c .before .before .before .before .args .number .value) (c .before .before .before .before .args .base) (c .before .before .before .before .args .digit) (c .before .before .before .before .args .limit) (omega arith) (omega arith) (omega arith), search needs)
 
 pub with-digit-spec : {M : Type 1} → statement M
 with-digit-spec =
     tie.close
     (tie.spec
-    bad-requires
+    no-number-requires
     returns
     sub-if2
     div-if2
-    bad-requires-2
+    no-number-requires-2
     returns-2
-    mul-good
-    add-good
-    good-requires
+    mul-t6
+    add-t7
     returns-3)

@@ -1,0 +1,7 @@
+-- Theorems on AltDUDE's definitions.
+pub mod Bytes
+pub mod RoundTrip
+pub mod Items
+pub mod Edges
+pub mod Settled
+pub mod SchemeFacts

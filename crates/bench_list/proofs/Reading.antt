@@ -1,0 +1,99 @@
+-- What the C interface answers and leaves for a line, in the terms of what is printed.
+use Prim.Native.Nat.{ℕ, _+_, _*_, _-_, _≤_, _<_}
+use mathlib.Core.Path.{_≡_, refl, _∙_}
+use mathlib.Core.Bool.{true}
+use mathlib.Core.List.{List, _++_}
+use lib.ListN.{length, take, drop}
+use native.Mathlib.Omega.{arith}
+use Rattle.basis.specs.Outcome.{Outcome, done, refused, refusedIf, bufferAfter}
+use Rattle.basis.proofs.Parts.{front-is, front-fits, front-long}
+use Rattle.utf16.specs.Points.{isText}
+use Rattle.utf16.specs.Units as utf16
+use Rattle.utf16.proofs.RoundTrip.{points-back, text-paired, length-toUnits}
+use Rattle.wire.specs.Bytes as wire
+use Rattle.wire.proofs.RoundTrip.{units-back, length-toBytes}
+use Rattle.scheme.specs.Coding.{decodeOutcome, textOf}
+use Rattle.scheme.specs.Naming.{defaultNumber, ownNumberNames, numberNames}
+use Rattle.scheme.specs.declared.Scheme.the-variants.{Lace}
+use Rattle.scheme.specs.declared.Named.the-variants.{Known}
+use Rattle.scheme.proofs.SchemeFacts.{decoded-text}
+use Rattle.scheme.proofs.Capacity.{decoded-short}
+use Rattle.firmware.specs.Answer.{answerOf, ifKnown, madeBy, pointsOf, bytesOf, inBytes, readBy, readOutcome, readText}
+use Rattle.report.specs.Lines.{pointsLine, refusedLine}
+use Rattle.bench_list.specs.Listing.{lineFor, benchLine}
+use Rattle.bench_list.specs.TextBytes.{TextBytes}
+
+-- the number 0 names LACE
+zero-names : numberNames 0 ≡ Known Lace
+unfolding numberNames ownNumberNames defaultNumber
+zero-names = refl
+
+-- the bytes of a text
+text-bytes : (text : List ℕ) → isText text ≡ true → length text ≤ 63 → TextBytes (bytesOf text)
+unfolding bytesOf
+text-bytes text t h =
+    let long : length (wire.toBytes (utf16.toUnits text)) ≡ 2 * length (utf16.toUnits text) = length-toBytes (utf16.toUnits text) in
+    record {
+      even = omega arith;
+      paired = rw units-back (text-paired text t);
+      few = omega (arith, length-toUnits text);
+    }
+
+text-back : (text : List ℕ) → isText text ≡ true → pointsOf (bytesOf text) ≡ text
+unfolding pointsOf bytesOf
+text-back text t = rw units-back (points-back text t)
+
+module _ (label : List ℕ) where
+  read-is : readOutcome 0 252 label ≡ inBytes (bytesOf (textOf Lace label)) (decodeOutcome Lace 63 label)
+  unfolding readOutcome ifKnown readBy refusedIf
+  read-is = rw zero-names
+
+  text-is : readText 0 label ≡ bytesOf (textOf Lace label)
+  unfolding readText madeBy
+  text-is = rw zero-names
+
+  -- the interface's answer, and the text's buffer that was old and is now
+  module _ (answer : ℕ) (old now : List ℕ) (a : answer ≡ answerOf (readOutcome 0 252 label)) (b : now ≡ bufferAfter (readOutcome 0 252 label) (readText 0 label) old) where
+    -- so many bytes in front of the buffer are those of the text, whose points are printed
+    pub record WasRead : Type 0 where
+      pub inside : answer ≤ length now
+      pub long : answer ≡ length (take answer now)
+      pub bytes : TextBytes (take answer now)
+      pub line : pointsLine (pointsOf (take answer now)) ≡ benchLine label
+
+    was-read : (n : ℕ) → decodeOutcome Lace 63 label ≡ done n → WasRead
+    unfolding answerOf inBytes bufferAfter benchLine lineFor
+    was-read n e =
+        let t = decoded-text Lace 63 n label e in
+        let text = textOf Lace label in
+        let count : answer ≡ length (bytesOf text) = a ∙ rw (read-is, e) in
+        let is : now ≡ bytesOf text ++ drop (length (bytesOf text)) old = b ∙ rw (read-is, text-is, e) in
+        let front : take answer now ≡ bytesOf text = front-is answer (bytesOf text) _ now count is in
+        record {
+          inside = front-fits answer (bytesOf text) _ now count is;
+          long = front-long answer (bytesOf text) _ now count is;
+          bytes = rw front (text-bytes text t (decoded-short Lace 63 n label e));
+          line = rw (front, text-back text t, e);
+        }
+
+    was-refused : (number position : ℕ) → decodeOutcome Lace 63 label ≡ refused number position → (answer ≡ 1000 + number) × (refusedLine number ≡ benchLine label)
+    unfolding answerOf inBytes benchLine lineFor
+    was-refused number position e = (a ∙ rw (read-is, e), rw e)
+
+    -- an answer below 1000 is of a text, any other of a refusal
+    pub read-below : answer < 1000 → WasRead
+    read-below h = by (decodeOutcome Lace 63 label) refl
+      where
+        by : (outcome : Outcome) → decodeOutcome Lace 63 label ≡ outcome → WasRead
+        by (done n) e = was-read n e
+        by (refused number position) e = absurd (omega (arith, was-refused number position e .0))
+
+    pub refused-from : 1000 ≤ answer → refusedLine (answer - 1000) ≡ benchLine label
+    refused-from h = by (decodeOutcome Lace 63 label) refl
+      where
+        by : (outcome : Outcome) → decodeOutcome Lace 63 label ≡ outcome → refusedLine (answer - 1000) ≡ benchLine label
+        by (done n) e = let r = was-read n e in absurd (omega (arith, r .long, r .bytes .few))
+        by (refused number position) e =
+            let r = was-refused number position e in
+            let k : answer - 1000 ≡ number = omega (arith, r .0) in
+            rw k (r .1)

@@ -1,0 +1,82 @@
+-- `answers::answer_line` meets its contract: an answer below 1000 is of a text, any other of a refusal.
+use native.Mathlib.Omega.{arith}
+use Rattle.bench_list.specs.Listing.{benchLine}
+use Rattle.bench_list.proofs.Widths.{line-fits}
+use Rattle.bench_list.proofs.TextLines.{line-written}
+use Rattle.bench_list.proofs.Reading.{read-below, refused-from}
+use borrow.Author.Needs.{needs}
+use Rattle.bench_list.proofs.answers.answer_line.Statement.{statement}
+use Rattle.bench_list.proofs.answers.answer_line.Tie as tie
+
+slice-aggregate-distelhut-read : tie.Need-slice-aggregate-distelhut-read
+slice-aggregate-distelhut-read c = search needs
+
+distelhut-read-requires : tie.Need-distelhut-read-requires
+distelhut-read-requires c κs = search needs
+
+cast-n : tie.Need-cast-n
+cast-n c = search needs
+
+array-share-prefix-text : tie.Need-array-share-prefix-text
+array-share-prefix-text c =
+    let d = c .before .before .distelhut-read in
+    read-below _ _ _ _ (d .ensures .0) (d .ensures .1) (c .if1 .taken) .inside
+
+slice-aggregate-text-line : tie.Need-slice-aggregate-text-line
+slice-aggregate-text-line c =
+    let d = c .before .before .before .distelhut-read in
+    read-below _ _ _ _ (d .ensures .0) (d .ensures .1) (c .before .if1 .taken) .long
+
+text-line-requires : tie.Need-text-line-requires
+text-line-requires c κs =
+    let d = c .before .before .before .before .distelhut-read in
+    read-below _ _ _ _ (d .ensures .0) (d .ensures .1) (c .before .before .if1 .taken) .bytes
+
+count-requires : tie.Need-count-requires
+count-requires c κs = search needs
+
+same-length : tie.Need-same-length
+same-length c = search needs
+
+returns : tie.Need-returns
+returns c =
+    let t = c .before .before .before in
+    let k = t .before .before .before in
+    let d = k .before .before .distelhut-read in
+    let a = c .before .before .before .before .before .before .before .before .before .before .before .before .args in
+    line-written _ (benchLine (a .label .now)) (a .out .now) (read-below _ _ _ _ (d .ensures .0) (d .ensures .1) (k .if1 .taken) .line) (omega (arith, line-fits (a .label .now))) _ _ _ (t .text-line .ensures .0) (t .text-line .ensures .1) (c .count .ensures)
+
+refused-line-requires : tie.Need-refused-line-requires
+refused-line-requires c κs = search needs
+
+count-requires-2 : tie.Need-count-requires-2
+count-requires-2 c κs = search needs
+
+same-length-2 : tie.Need-same-length-2
+same-length-2 c = search needs
+
+returns-2 : tie.Need-returns-2
+returns-2 c =
+    let t = c .before .before .before in
+    let k = t .before .before in
+    let d = k .before .before .distelhut-read in
+    let a = c .before .before .before .before .before .before .before .before .before .before .before .args in
+    line-written _ (benchLine (a .label .now)) (a .out .now) (refused-from _ _ _ _ (d .ensures .0) (d .ensures .1) (k .if1 .left)) (omega (arith, line-fits (a .label .now))) _ _ _ (t .refused-line .ensures .0) (t .refused-line .ensures .1) (c .count2 .ensures)
+
+pub answer-line-spec : {M : Type 1} → statement M
+answer-line-spec =
+    tie.close
+    (tie.spec
+    slice-aggregate-distelhut-read
+    distelhut-read-requires
+    cast-n
+    array-share-prefix-text
+    slice-aggregate-text-line
+    text-line-requires
+    count-requires
+    same-length
+    returns
+    refused-line-requires
+    count-requires-2
+    same-length-2
+    returns-2)

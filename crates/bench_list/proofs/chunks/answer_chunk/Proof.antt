@@ -1,0 +1,111 @@
+-- `chunks::answer_chunk` meets its contract: the lines before `from` are answered, the run over what is left is to come.
+use Prim.Native.Nat.{_-_}
+use native.Mathlib.Omega.{arith}
+use lib.ListN.{length, take}
+use borrow.Author.Needs.{needs}
+use Rattle.bench_list.proofs.Answering.{Answering, answering-start, answering-end, answering-rest, answering-more, out-long, at-fits, room-left, line-kept, later, line-fits-in, line-long}
+use Rattle.bench_list.proofs.chunks.answer_chunk.Statement.{statement}
+use Rattle.bench_list.proofs.chunks.answer_chunk.Tie as tie
+
+abbrev Inv-loop : tie.InvT-loop
+Inv-loop chunk line₀ held out₀ kept₀ at₀ from₀ line out kept at from = Answering (length line₀) (take held line₀) chunk out₀ out at line kept from
+
+abbrev μ-loop : tie.MeasureT-loop
+μ-loop chunk line₀ held out₀ kept₀ at₀ from₀ line out kept at from = length chunk - from
+
+loop-holds : tie.Need-loop-holds Inv-loop μ-loop
+loop-holds c = answering-start _ _ _ _ (c .before .before .before .pre .0)
+
+next-line-requires : tie.Need-next-line-requires Inv-loop μ-loop
+next-line-requires c κs = search needs
+
+enum-known-step : tie.Need-enum-known-step Inv-loop μ-loop
+enum-known-step c = search needs
+
+same-length : tie.Need-same-length Inv-loop μ-loop
+same-length c = line-kept (c .before .before .before .before .before .before .before .before .loop .inv) _ (c .before .before .before .before .before .next-line .ensures .1)
+
+same-length-2 : tie.Need-same-length-2 Inv-loop μ-loop
+same-length-2 c = out-long (c .before .before .before .before .before .before .before .before .loop .inv) (c .before .before .before .before .before .before .before .before .before .before .before .before .pre .1)
+
+returns : tie.Need-returns Inv-loop μ-loop
+returns c =
+    let s = c .before .before .before .before .before in
+    answering-rest (s .before .before .before .loop .inv) _ (s .next-line .ensures .1) _ _ (c .before .step .given .1) (s .next-line .ensures .0)
+
+enum-known-step-2 : tie.Need-enum-known-step-2 Inv-loop μ-loop
+enum-known-step-2 c = search needs
+
+slice-reshare-prefix-answer-line : tie.Need-slice-reshare-prefix-answer-line Inv-loop μ-loop
+slice-reshare-prefix-answer-line c =
+    let s = c .before .before .before .before .before in
+    line-fits-in (s .before .before .before .loop .inv) _ (s .next-line .ensures .1) _ _ _ (c .before .step2 .given .1) (s .next-line .ensures .0)
+
+slice-aggregate-answer-line : tie.Need-slice-aggregate-answer-line Inv-loop μ-loop
+slice-aggregate-answer-line c =
+    let s = c .before .before .before .before .before .before in
+    line-long (s .before .before .before .loop .inv) _ (s .next-line .ensures .1) _ _ _ (c .before .before .step2 .given .1) (s .next-line .ensures .0)
+
+sub-answer-line : tie.Need-sub-answer-line Inv-loop μ-loop
+sub-answer-line c = at-fits (c .before .before .before .before .before .before .before .before .before .loop .inv) (c .before .before .before .before .before .before .before .before .before .before .before .before .before .pre .1)
+
+part-answer-line-start : tie.Need-part-answer-line-start Inv-loop μ-loop
+part-answer-line-start c = sub-answer-line c
+
+part-answer-line-end : tie.Need-part-answer-line-end Inv-loop μ-loop
+part-answer-line-end c = search needs
+
+answer-line-requires : tie.Need-answer-line-requires Inv-loop μ-loop
+answer-line-requires c κs =
+    let l = c .before .before .before .before .before .before .before .before .before .before in
+    room-left (l .loop .inv) (l .before .before .before .before .pre .1) (c .before .before .before .before .before .before .before .before .before .loop-test .taken)
+
+loop-again : tie.Need-loop-again Inv-loop μ-loop
+loop-again c =
+    let s = c .before .before .before .before .before .before .before .before .before .before in
+    let a = c .before .before .answer-line .ensures in
+    answering-more (s .before .before .before .loop .inv) _ (s .next-line .ensures .1) _ _ _ (c .before .before .before .before .before .before .step2 .given .1) (s .next-line .ensures .0) _ (a .1) _ (a .0)
+
+add-at : tie.Need-add-at Inv-loop μ-loop
+add-at c = let a = loop-again c in record { fits = omega (arith, a .room, a .within, c .before .before .before .before .before .before .before .before .before .before .before .before .before .before .before .before .before .pre .1) }
+
+loop-less : tie.Need-loop-less Inv-loop μ-loop
+loop-less c =
+    let s = c .before .before .before .before .before .before .before .before .before .before in
+    let n = later (s .before .before .before .loop .inv) _ (s .next-line .ensures .1) _ _ _ (c .before .before .before .before .before .before .step2 .given .1) (s .next-line .ensures .0) in
+    omega arith
+
+same-length-3 : tie.Need-same-length-3 Inv-loop μ-loop
+same-length-3 c = c .before .loop .inv .long
+
+same-length-4 : tie.Need-same-length-4 Inv-loop μ-loop
+same-length-4 c = out-long (c .before .loop .inv) (c .before .before .before .before .before .pre .1)
+
+returns-2 : tie.Need-returns-2 Inv-loop μ-loop
+returns-2 c = answering-end (c .before .loop .inv) (c .loop-test .left)
+
+pub answer-chunk-spec : {M : Type 1} → statement M
+answer-chunk-spec =
+    tie.close
+    (tie.spec
+    Inv-loop
+    μ-loop
+    loop-holds
+    next-line-requires
+    enum-known-step
+    same-length
+    same-length-2
+    returns
+    enum-known-step-2
+    slice-reshare-prefix-answer-line
+    slice-aggregate-answer-line
+    sub-answer-line
+    part-answer-line-start
+    part-answer-line-end
+    answer-line-requires
+    add-at
+    loop-less
+    loop-again
+    same-length-3
+    same-length-4
+    returns-2)

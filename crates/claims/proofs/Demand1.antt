@@ -1,0 +1,365 @@
+-- Demand 1 holds: the tests of each outcome have listed numbers, and what is done counts its values, for which there is room.
+use Prim.Native.Nat.{ℕ, zero, suc, _+_, _*_, _/_, _≤_, _<_}
+use mathlib.Core.Path.{_≡_, refl, sym, ap, _∙_}
+use mathlib.Core.Bool.{Bool, true, false}
+use mathlib.Core.List.{List, [], _∷_}
+use lib.Dec.{eqb, ltb}
+use lib.ListN.{length, getD, take, drop, length-append, length-drop}
+use lib.Seq.{take-at, drop-at, length-take-le}
+use borrow.Author.Tests.{le-ltb, ltb-false, ne-eqb, not-false}
+use native.Mathlib.Omega.{arith}
+use Rattle.basis.specs.Rows.{AllBelow}
+use Rattle.basis.specs.Outcome.{Outcome, done, refused, refusedIf, bufferAfter}
+use Rattle.basis.proofs.Tests.{cases, true-not-false, within-true, within-low, within-high, first-le, none-iff}
+use Rattle.basis.proofs.Outcome.{done-not-refused, done-count}
+use Rattle.utf16.specs.Points.{isPoint, isText, firstNotPoint}
+use Rattle.utf16.specs.Units as utf16
+use Rattle.utf16.specs.Answer as utf16-answer
+use Rattle.utf16.proofs.Refusals.{to-units-settled, to-points-settled}
+use Rattle.utf16.proofs.RoundTrip.{units-text, length-toUnits, length-toPoints}
+use Rattle.base32.specs.Alphabet as alphabet
+use Rattle.base32.specs.Form.{octetCount}
+use Rattle.base32.specs.Base32.{charactersOf, toOctets}
+use Rattle.base32.specs.Answer as base32
+use Rattle.base32.proofs.Regroup.{length-toOctets}
+use Rattle.base32.proofs.Values.{length-values, length-charactersOf}
+use Rattle.altdude.specs.Encoding as altdude-encoding
+use Rattle.altdude.specs.Decoding as altdude-decoding
+use Rattle.altdude.specs.Answer as altdude
+use Rattle.altdude.proofs.DecodeLaws as altdude-laws
+use Rattle.lace.specs.Octets.{isAllLdh}
+use Rattle.lace.specs.Encoding as lace-encoding
+use Rattle.lace.specs.Decoding as lace-decoding
+use Rattle.lace.specs.Answer as lace
+use Rattle.lace_facts.proofs.Label as lace-laws
+use Rattle.scheme.specs.declared.Scheme.{Scheme}
+use Rattle.scheme.specs.declared.Scheme.the-variants.{Altdude, Lace}
+use Rattle.scheme.specs.declared.Named.{Named}
+use Rattle.scheme.specs.declared.Named.the-variants.{Known, Unknown}
+use Rattle.scheme.specs.Naming.{numberNames}
+use Rattle.scheme.specs.Coding as scheme
+use Rattle.nametable.specs.Format.{countOf, readerOf, lengthOf, labelIn, schemeIn}
+use Rattle.nametable.specs.Answer.{labelJudged, entryJudged, thenEntries, entriesJudged, readOutcome, findOutcome, entryIn, counted, entryText}
+use Rattle.nametable.proofs.EntryLaws.{label-long}
+use Rattle.nametable.proofs.Whole.{found-count, found-short}
+use Rattle.nametable.proofs.Truncation.{truncated, truncated-entry, prefix-truncated, prefix-truncated-entry}
+use Rattle.wire.specs.Bytes as wire
+use Rattle.wire.specs.Answer as wire-answer
+use Rattle.wire.proofs.RoundTrip as wire-laws
+use Rattle.firmware.specs.Answer.{answerOf, ifKnown, madeBy, pointsOf, bytesOf, writeUnits, writeBy, writeOutcome, writtenLabel, inBytes, readBy, readText}
+use Rattle.firmware.specs.Answer as firmware
+use Rattle.firmware.proofs.Counts.{write-few, bytes-few, read-few}
+use Rattle.report.specs.Lines.{listLine, pointsLine, refusedAtLine, refusedLine}
+use Rattle.report.specs.Answer.{lineOutcome}
+use Rattle.claims.specs.Demand1.{isOneOf, Listed, Answers, Tells, encodeCodes, decodeCodes, tableCodes, writeCodes, readCodes, Demand1}
+
+-- a chain of tests: each that holds has a listed number
+module _ {codes : List ℕ} where
+  listed-done : (count : ℕ) → Listed codes (done count)
+  listed-done count = record { oneOf = λ number position e. absurd (done-not-refused refl e) }
+
+  listed-refused : (number position : ℕ) → isOneOf codes number ≡ true → Listed codes (refused number position)
+  listed-refused number position here = record { oneOf = λ k p e. let q : number ≡ k = cc in rw (← q) here }
+
+  listed-if : (test : Bool) (number position : ℕ) {next : Outcome} → isOneOf codes number ≡ true → (test ≡ false → Listed codes next)
+      → Listed codes (refusedIf test number position next)
+  unfolding refusedIf
+  listed-if true number position here later = listed-refused number position here
+  listed-if false number position here later = later refl
+
+-- an outcome is done, or refused with a listed number; done, it counts its values, for which there is room
+record Good (codes : List ℕ) (outcome : Outcome) (values : List ℕ) (room : ℕ) : Type 0 where
+  listed : Listed codes outcome
+  counts : (n : ℕ) → outcome ≡ done n → (n ≡ length values) × (n ≤ room)
+
+-- an entry with such an outcome, whose buffer has the room
+answers : {codes : List ℕ} (outcome : Outcome) {values : List ℕ} {buffer : List ℕ} → Good codes outcome values (length buffer) → Answers codes outcome values buffer
+unfolding bufferAfter firmware.countOf
+answers (done n) {values} {buffer} g =
+    let c = g .counts n refl in
+    record {
+      listed = g .listed;
+      untouched = λ number position e. absurd (done-not-refused refl e);
+      written = λ count e. take-at values (drop n buffer) count (omega (arith, c .0, done-count refl e));
+      within = c .1;
+      asLong = omega (arith, c .0, c .1, length-append values (drop n buffer), length-drop n buffer);
+      unchanged = drop-at values (drop n buffer) n (sym (c .0));
+    }
+answers (refused number position) g = record {
+  listed = g .listed;
+  untouched = λ k p e. refl;
+  written = λ count e. absurd (done-not-refused e refl);
+  within = omega arith;
+  asLong = refl;
+  unchanged = refl;
+}
+
+-- a chain of tests, at whose end stands the count
+module _ {codes values : List ℕ} {room : ℕ} where
+  good-done : (count : ℕ) → count ≡ length values → count ≤ room → Good codes (done count) values room
+  good-done count is fits = record { listed = listed-done count; counts = λ n e. let q : count ≡ n = done-count refl e in rw (← q) (is, fits) }
+
+  good-refused : (number position : ℕ) → isOneOf codes number ≡ true → Good codes (refused number position) values room
+  good-refused number position here = record { listed = listed-refused number position here; counts = λ n e. absurd (done-not-refused e refl) }
+
+  good-if : (test : Bool) (number position : ℕ) {next : Outcome} → (test ≡ true → isOneOf codes number ≡ true) → (test ≡ false → Good codes next values room)
+      → Good codes (refusedIf test number position next) values room
+  unfolding refusedIf
+  good-if true number position here later = good-refused number position (here refl)
+  good-if false number position here later = later refl
+
+-- the converter
+to-units : (points : List ℕ) (count : ℕ) (units : List ℕ)
+    → Answers (1 ∷ 4 ∷ []) (utf16-answer.toUnitsOutcome points count (length units)) (utf16.toUnits (take count points)) units
+unfolding utf16-answer.toUnitsOutcome utf16-answer.converted isOneOf
+to-units points count units =
+    answers _ (good-if _ _ _ (λ _. refl) (λ row. good-if _ _ _ (λ _. refl) (λ room. good-if _ _ _ (λ _. refl) (λ _. good-done _ refl
+    (omega (arith, length-toUnits (take count points), length-take-le count points (ltb-false (length points) count row), ltb-false (length units) (2 * count) room))))))
+
+to-points : (units : List ℕ) (count : ℕ) (points : List ℕ)
+    → Answers (1 ∷ 10 ∷ []) (utf16-answer.toPointsOutcome units count (length points)) (utf16.toPoints (take count units)) points
+unfolding utf16-answer.toPointsOutcome utf16-answer.converted isOneOf
+to-points units count points =
+    answers _ (good-if _ _ _ (λ _. refl) (λ row. good-if _ _ _ (λ _. refl) (λ room. good-if _ _ _ (λ _. refl) (λ _. good-done _ refl
+    (omega (arith, length-toPoints (take count units), length-take-le count units (ltb-false (length units) count row), ltb-false (length points) count room))))))
+
+-- Base32
+base32-encode : (octets characters : List ℕ)
+    → Answers (1 ∷ []) (base32.encodeOutcome octets (length characters)) (charactersOf alphabet.lace octets) characters
+unfolding base32.encodeOutcome isOneOf
+base32-encode octets characters =
+    answers _ (good-if _ _ _ (λ _. refl) (λ room. good-done _ (sym (length-charactersOf alphabet.lace octets)) (ltb-false _ _ room)))
+
+base32-decode : (characters octets : List ℕ)
+    → Answers (1 ∷ 7 ∷ 9 ∷ []) (base32.decodeOutcome characters (length octets)) (toOctets (alphabet.valuesOf alphabet.lace characters)) octets
+unfolding base32.decodeOutcome isOneOf
+base32-decode characters octets =
+    answers _ (good-if _ _ _ (λ _. refl) (λ room. good-if _ _ _ (λ _. refl) (λ _. good-if _ _ _ (λ _. refl) (λ _. good-done _
+    (sym (length-toOctets (alphabet.valuesOf alphabet.lace characters) ∙ ap octetCount (length-values alphabet.lace characters)))
+    (ltb-false _ _ room)))))
+
+-- writing a label, where the numbers of its tests are listed; 4 need be only if a number is no point
+module _ (codes : List ℕ) (capacity : ℕ) (t : List ℕ)
+    (one : isOneOf codes 1 ≡ true) (two : isOneOf codes 2 ≡ true) (three : isOneOf codes 3 ≡ true)
+    (four : ltb (firstNotPoint t) (length t) ≡ true → isOneOf codes 4 ≡ true) where
+  altdude-encoded : isOneOf codes 5 ≡ true → Good codes (altdude.encodeOutcome capacity t) (altdude-encoding.labelOf t) capacity
+  unfolding altdude.encodeOutcome
+  altdude-encoded five =
+      good-if _ _ _ (λ _. one) (λ room. good-if _ _ _ (λ _. two) (λ _. good-if _ _ _ four (λ _. good-if _ _ _ (λ _. five) (λ _. good-if _ _ _ (λ _. three) (λ short.
+      good-done _ refl (omega (arith, ltb-false capacity 63 room, ltb-false 63 (length (altdude-encoding.labelOf t)) short)))))))
+
+  lace-encoded : isOneOf codes 6 ≡ true → Good codes (lace.encodeOutcome isAllLdh capacity t) (lace-encoding.labelOf t) capacity
+  unfolding lace.encodeOutcome
+  lace-encoded six =
+      good-if _ _ _ (λ _. one) (λ room. good-if _ _ _ (λ _. two) (λ _. good-if _ _ _ four (λ _. good-if _ _ _ (λ _. six) (λ _. good-if _ _ _ (λ _. three) (λ short.
+      good-done _ refl (omega (arith, ltb-false capacity 63 room, ltb-false 63 (length (lace-encoding.labelOf t)) short)))))))
+
+-- reading a label; 1, 2 and 3 need be only if there is no room, and for no byte or too many
+module _ (codes : List ℕ) (capacity : ℕ) (l : List ℕ)
+    (one : ltb capacity 63 ≡ true → isOneOf codes 1 ≡ true) (two : eqb (length l) 0 ≡ true → isOneOf codes 2 ≡ true)
+    (three : ltb 63 (length l) ≡ true → isOneOf codes 3 ≡ true) (seven : isOneOf codes 7 ≡ true) (nine : isOneOf codes 9 ≡ true) where
+  altdude-decoded : isOneOf codes 5 ≡ true → Good codes (altdude.decodeOutcome capacity l) (altdude-decoding.textOf l) capacity
+  unfolding altdude.decodeOutcome
+  altdude-decoded five =
+      good-if _ _ _ one (λ room. good-if _ _ _ two (λ _. good-if _ _ _ three (λ short.
+      good-if _ _ _ (λ _. seven) (λ _. good-if _ _ _ (λ _. five) (λ _. good-if _ _ _ (λ _. nine) (λ _.
+      good-done _ refl (omega (arith, altdude-laws.text-fits l, ltb-false capacity 63 room, ltb-false 63 (length l) short))))))))
+
+  lace-decoded : isOneOf codes 8 ≡ true → isOneOf codes 6 ≡ true → Good codes (lace.decodeOutcome isAllLdh capacity l) (lace-decoding.textOf l) capacity
+  unfolding lace.decodeOutcome
+  lace-decoded eight six =
+      good-if _ _ _ one (λ room. good-if _ _ _ two (λ _. good-if _ _ _ three (λ short.
+      good-if _ _ _ (λ _. eight) (λ _. good-if _ _ _ (λ _. seven) (λ _. good-if _ _ _ (λ _. nine) (λ _. good-if _ _ _ (λ _. six) (λ _.
+      good-done _ refl (omega (arith, lace-laws.text-fits l, ltb-false capacity 63 room, ltb-false 63 (length l) short)))))))))
+
+scheme-encode : (s : Scheme) (text label : List ℕ) → Answers (encodeCodes s) (scheme.encodeOutcome s (length label) text) (scheme.labelOf s text) label
+unfolding encodeCodes scheme.encodeOutcome scheme.labelOf isOneOf
+scheme-encode Altdude text label = answers _ (altdude-encoded _ _ _ refl refl refl (λ _. refl) refl)
+scheme-encode Lace text label = answers _ (lace-encoded _ _ _ refl refl refl (λ _. refl) refl)
+
+scheme-decode : (s : Scheme) (label text : List ℕ) → Answers (decodeCodes s) (scheme.decodeOutcome s (length text) label) (scheme.textOf s label) text
+unfolding decodeCodes scheme.decodeOutcome scheme.textOf isOneOf
+scheme-decode Altdude label text = answers _ (altdude-decoded _ _ _ (λ _. refl) (λ _. refl) (λ _. refl) refl refl refl)
+scheme-decode Lace label text = answers _ (lace-decoded _ _ _ (λ _. refl) (λ _. refl) (λ _. refl) refl refl refl refl)
+
+-- a label that stands in an entry
+own-listed : (s : Scheme) (l : List ℕ) → 1 ≤ length l → length l ≤ 63 → Listed tableCodes (scheme.decodeOutcome s 63 l)
+unfolding tableCodes scheme.decodeOutcome isOneOf
+own-listed s l some short = by s
+  where
+    two : eqb (length l) 0 ≡ false
+    two = ne-eqb (length l) 0 (λ e. omega arith)
+
+    three : ltb 63 (length l) ≡ false
+    three = le-ltb 63 (length l) short
+
+    by : (s : Scheme) → Listed tableCodes (scheme.decodeOutcome s 63 l)
+    by Altdude = altdude-decoded _ 63 l (λ e. absurd (true-not-false e refl)) (λ e. absurd (true-not-false e two)) (λ e. absurd (true-not-false e three)) refl refl refl .listed
+    by Lace = lace-decoded _ 63 l (λ e. absurd (true-not-false e refl)) (λ e. absurd (true-not-false e two)) (λ e. absurd (true-not-false e three)) refl refl refl refl .listed
+
+-- the verdict on an entry keeps the label's number, and that on the entries the entry's
+label-listed : {codes : List ℕ} (verdict : Outcome) (reader : ℕ) → Listed codes verdict → Listed codes (labelJudged verdict reader)
+unfolding labelJudged
+label-listed (done count) reader listed = listed-done reader
+label-listed (refused number position) reader listed = listed-refused number 0 (listed .oneOf number position refl)
+
+then-listed : {codes : List ℕ} (index : ℕ) (verdict next : Outcome) → Listed codes verdict → Listed codes next → Listed codes (thenEntries index verdict next)
+unfolding thenEntries
+then-listed index (done reader) next listed later = later
+then-listed index (refused number position) next listed later = listed-refused number index (listed .oneOf number position refl)
+
+entry-listed : (least : ℕ) (e : List ℕ) → length e ≡ 67 → Listed tableCodes (entryJudged least e)
+unfolding entryJudged tableCodes isOneOf
+entry-listed least e long =
+    listed-if _ _ _ refl (λ _. listed-if _ _ _ refl (λ _. listed-if _ _ _ refl (λ sized. listed-if _ _ _ refl (λ _.
+    let low = within-low 1 63 (lengthOf e) (not-false _ sized) in
+    let high = within-high 1 63 (lengthOf e) (not-false _ sized) in
+    let size = label-long e long high in
+    label-listed _ (readerOf e) (own-listed (schemeIn e) (labelIn e) (omega arith) (omega arith))))))
+
+entries-listed : (index least left : ℕ) (bytes : List ℕ) (total : ℕ) → length bytes ≡ 67 * left → Listed tableCodes (entriesJudged index least left bytes total)
+unfolding entriesJudged
+entries-listed index least zero bytes total long = listed-done total
+entries-listed index least (suc left) bytes total long =
+    then-listed index _ _ (entry-listed least (take 67 bytes) (length-take-le 67 bytes (omega arith)))
+    (entries-listed (suc index) (suc (readerOf bytes)) left (drop 67 bytes) total (omega (arith, length-drop 67 bytes)))
+
+table-read : (table : List ℕ) → Listed tableCodes (readOutcome table)
+unfolding readOutcome tableCodes isOneOf
+table-read t =
+    listed-if _ _ _ refl (λ _. listed-if _ _ _ refl (λ _. listed-if _ _ _ refl (λ _. listed-if _ _ _ refl (λ _.
+    listed-if _ _ _ refl (λ uncut. listed-if _ _ _ refl (λ unlong.
+    let least = ltb-false (length t) (3 + 67 * countOf t) uncut in
+    let most = ltb-false (3 + 67 * countOf t) (length t) unlong in
+    entries-listed 0 0 (countOf t) (drop 3 t) (countOf t) (omega (arith, length-drop 3 t))))))))
+
+-- one entry
+one-more : (code number : ℕ) (codes : List ℕ) → isOneOf codes number ≡ true → isOneOf (code ∷ codes) number ≡ true
+unfolding isOneOf
+one-more code number codes e = rw e (cases (eqb code number) (λ c. rw c) (λ c. rw c))
+
+table-entry : (table : List ℕ) (index : ℕ) (text : List ℕ)
+    → Answers (1 ∷ tableCodes) (counted (findOutcome table index (length text))) (entryText table index) text
+unfolding findOutcome entryIn counted tableCodes isOneOf
+table-entry t index text = answers _ (record { listed = listed; counts = λ n e. let h = found-short t index (length text) n e in (found-count t index (length text) n e, omega arith) })
+  where
+    judged : (verdict : Outcome) → Listed tableCodes verdict → Listed (1 ∷ tableCodes) (counted (entryIn t index verdict))
+    judged (refused number position) listed = listed-refused number position (one-more 1 number tableCodes (listed .oneOf number position refl))
+    judged (done count) listed = cases (ltb index count) (λ c. rw c (listed-done _)) (λ c. rw c (listed-refused 14 0 refl))
+
+    listed : Listed (1 ∷ tableCodes) (counted (findOutcome t index (length text)))
+    listed = cases (ltb (length text) 63) (λ c. rw c (listed-refused 1 0 refl)) (λ c. rw c (judged (readOutcome t) (table-read t)))
+
+-- texts as bytes
+bytes-to-units : (bytes units : List ℕ) → Answers (1 ∷ 12 ∷ []) (wire-answer.toUnitsOutcome bytes (length units)) (wire.toUnits bytes) units
+unfolding wire-answer.toUnitsOutcome isOneOf
+bytes-to-units bytes units =
+    answers _ (good-if _ _ _ (λ _. refl) (λ room. good-if _ _ _ (λ _. refl) (λ _. good-done _ refl
+    (omega (arith, wire-laws.length-toUnits bytes, ltb-false (length units) (length bytes / 2) room)))))
+
+units-to-bytes : (units : List ℕ) (count : ℕ) (bytes : List ℕ)
+    → Answers (1 ∷ []) (wire-answer.toBytesOutcome units count (length bytes)) (wire.toBytes (take count units)) bytes
+unfolding wire-answer.toBytesOutcome isOneOf
+units-to-bytes units count bytes =
+    answers _ (good-if _ _ _ (λ _. refl) (λ row. good-if _ _ _ (λ _. refl) (λ room. good-done _ refl
+    (omega (arith, wire-laws.length-toBytes (take count units), length-take-le count units (ltb-false (length units) count row), ltb-false (length bytes) (2 * count) room)))))
+
+-- lines
+put-line : (line out : List ℕ) → Answers (1 ∷ []) (lineOutcome line (length out)) line out
+unfolding lineOutcome isOneOf
+put-line line out = answers _ (good-if _ _ _ (λ _. refl) (λ room. good-done _ refl (ltb-false (length out) (length line) room)))
+
+-- under a number, where the answers of each scheme are good
+known-good : {codes : List ℕ} {room : ℕ} (named : Named) (outcome : Scheme → Outcome) (made : Scheme → List ℕ) → isOneOf codes 11 ≡ true
+    → ((s : Scheme) → Good codes (outcome s) (made s) room) → Good codes (ifKnown named outcome) (madeBy named made) room
+unfolding ifKnown madeBy
+known-good Unknown outcome made eleven good = good-refused 11 0 eleven
+known-good (Known s) outcome made eleven good = good s
+
+-- units of which none is unpaired make points
+never-four : (units : List ℕ) → AllBelow 65536 units → ltb (utf16.firstUnpaired units) (length units) ≡ false
+    → ltb (firstNotPoint (utf16.toPoints units)) (length (utf16.toPoints units)) ≡ false
+unfolding utf16.firstUnpaired firstNotPoint isText
+never-four units below paired =
+    let ps = utf16.toPoints units in
+    let e : utf16.firstUnpaired units ≡ length units = omega (arith, first-le (length units) (utf16.unpairedAt 0 units), ltb-false (utf16.firstUnpaired units) (length units) paired) in
+    le-ltb (firstNotPoint ps) (length ps) (omega (arith, none-iff (length ps) (λ i. isPoint (getD ps i 0)) .1 (units-text units below e)))
+
+write-units : (s : Scheme) (capacity : ℕ) (units : List ℕ) → AllBelow 65536 units
+    → Good writeCodes (writeUnits s capacity units) (scheme.labelOf s (utf16.toPoints units)) capacity
+unfolding writeUnits writeCodes isOneOf scheme.encodeOutcome scheme.labelOf
+write-units Altdude capacity units below =
+    good-if _ _ _ (λ _. refl) (λ paired. altdude-encoded _ _ _ refl refl refl (λ e. absurd (true-not-false e (never-four units below paired))) refl)
+write-units Lace capacity units below =
+    good-if _ _ _ (λ _. refl) (λ paired. lace-encoded _ _ _ refl refl refl (λ e. absurd (true-not-false e (never-four units below paired))) refl)
+
+firmware-write : (number : ℕ) (text label : List ℕ) → AllBelow 256 text
+    → Answers writeCodes (writeOutcome number (length label) text) (writtenLabel number text) label
+unfolding writeOutcome writtenLabel writeBy pointsOf writeCodes isOneOf
+firmware-write number text label below =
+    answers _ (known-good (numberNames number) _ _ refl (λ s.
+    good-if _ _ _ (λ _. refl) (λ _. good-if _ _ _ (λ _. refl) (λ _. good-if _ _ _ (λ _. refl) (λ _. good-if _ _ _ (λ _. refl) (λ _.
+    write-units s (length label) (wire.toUnits text) (wire-laws.units-below text below)))))))
+
+-- a text of at most 63 points as bytes
+bytes-good : {codes : List ℕ} {room : ℕ} (outcome : Outcome) (text : List ℕ) → Good codes outcome text 63 → 252 ≤ room
+    → Good codes (inBytes (bytesOf text) outcome) (bytesOf text) room
+unfolding inBytes
+bytes-good (done n) text g room =
+    let c = g .counts n refl in
+    good-done _ refl (omega (arith, bytes-few text (omega (arith, c .0, c .1))))
+bytes-good (refused number position) text g room = good-refused number position (g .listed .oneOf number position refl)
+
+read-label : (s : Scheme) (room : ℕ) (label : List ℕ) → 252 ≤ room
+    → Good readCodes (inBytes (bytesOf (scheme.textOf s label)) (scheme.decodeOutcome s 63 label)) (bytesOf (scheme.textOf s label)) room
+unfolding readCodes isOneOf scheme.decodeOutcome scheme.textOf
+read-label Altdude room label h = bytes-good _ _ (altdude-decoded _ _ _ (λ _. refl) (λ _. refl) (λ _. refl) refl refl refl) h
+read-label Lace room label h = bytes-good _ _ (lace-decoded _ _ _ (λ _. refl) (λ _. refl) (λ _. refl) refl refl refl refl) h
+
+firmware-read : (number : ℕ) (label text : List ℕ)
+    → Answers readCodes (firmware.readOutcome number (length text) label) (readText number label) text
+unfolding firmware.readOutcome readText readBy readCodes isOneOf
+firmware-read number label text =
+    answers _ (known-good (numberNames number) _ _ refl (λ s. good-if _ _ _ (λ _. refl) (λ room. read-label s (length text) label (ltb-false (length text) 252 room))))
+
+-- what the one number tells
+tells : (most : ℕ) (outcome : Outcome) → most < 1000 → firmware.countOf outcome ≤ most → Tells most outcome
+unfolding answerOf firmware.countOf
+tells most (done n) below few = record { counts = λ h. (refl, few); refuses = λ number e. absurd (omega arith) }
+tells most (refused k p) below few = record {
+  counts = λ h. absurd (omega arith);
+  refuses = λ number e. let q : k ≡ number = omega arith in (p, ap (λ (x : ℕ). refused x p) q);
+}
+
+pub demand1 : Demand1
+unfolding scheme.encodeOutcome scheme.labelOf scheme.decodeOutcome scheme.textOf
+demand1 = record {
+  toUnits = to-units;
+  toPoints = to-points;
+  toUnitsOrder = to-units-settled;
+  toPointsOrder = to-points-settled;
+  base32Encode = base32-encode;
+  base32Decode = base32-decode;
+  altdudeEncode = scheme-encode Altdude;
+  altdudeDecode = scheme-decode Altdude;
+  laceEncode = scheme-encode Lace;
+  laceDecode = scheme-decode Lace;
+  schemeEncode = scheme-encode;
+  schemeDecode = scheme-decode;
+  tableRead = table-read;
+  tableEntry = table-entry;
+  bytesToUnits = bytes-to-units;
+  unitsToBytes = units-to-bytes;
+  write = firmware-write;
+  writeTells = λ number capacity text. tells _ _ (omega arith) (omega (arith, write-few number capacity text));
+  read = firmware-read;
+  readTells = λ number capacity label. tells _ _ (omega arith) (omega (arith, read-few number capacity label));
+  listLines = λ reader letter points. put-line (listLine reader letter points);
+  pointsLines = λ points. put-line (pointsLine points);
+  refusedAtLines = λ code position. put-line (refusedAtLine code position);
+  refusedLines = λ code. put-line (refusedLine code);
+  cutRead = λ t c. truncated t (c .kind) (c .header) (within-true 1 500 (countOf t) (c .some) (c .few)) (omega (arith, c .short));
+  cutEntry = λ t c. truncated-entry t (c .kind) (c .header) (within-true 1 500 (countOf t) (c .some) (c .few)) (omega (arith, c .short));
+  prefixRead = prefix-truncated;
+  prefixEntry = prefix-truncated-entry;
+}

@@ -1,0 +1,153 @@
+-- Demand 1: what every entry answers and leaves, whatever it is given, and that a table that is cut is refused as cut. The outcomes and
+-- the values are the definitions that the contracts cite. The order of the refusals is that of their tests; by causes it is said of the
+-- converter here, and of the schemes in demand 2. That a call ends and stays inside what it was lent is what the checker proves of
+-- each function.
+use Prim.Native.Nat.{ℕ, _+_, _*_, _≤_, _<_}
+use mathlib.Core.Path.{_≡_}
+use mathlib.Core.Bool.{Bool, true, false, _||_}
+use mathlib.Core.List.{List, [], _∷_}
+use lib.Dec.{eqb}
+use lib.ListN.{length, take, drop}
+use Rattle.basis.specs.Rows.{at, AllBelow}
+use Rattle.basis.specs.Outcome.{Outcome, done, refused, bufferAfter}
+use Rattle.basis.specs.Causes.{Settles}
+use Rattle.utf16.specs.Units as utf16
+use Rattle.utf16.specs.Answer as utf16-answer
+use Rattle.utf16.specs.Causes.{toUnitsCauses, toPointsCauses}
+use Rattle.base32.specs.Alphabet as alphabet
+use Rattle.base32.specs.Base32.{charactersOf, toOctets}
+use Rattle.base32.specs.Answer as base32
+use Rattle.altdude.specs.Encoding as altdude-encoding
+use Rattle.altdude.specs.Decoding as altdude-decoding
+use Rattle.altdude.specs.Answer as altdude
+use Rattle.lace.specs.Octets.{isAllLdh}
+use Rattle.lace.specs.Encoding as lace-encoding
+use Rattle.lace.specs.Decoding as lace-decoding
+use Rattle.lace.specs.Answer as lace
+use Rattle.scheme.specs.declared.Scheme.{Scheme}
+use Rattle.scheme.specs.declared.Scheme.the-variants.{Altdude, Lace}
+use Rattle.scheme.specs.Coding as scheme
+use Rattle.nametable.specs.Format as nametable
+use Rattle.nametable.specs.Answer.{readOutcome, notFound, findOutcome, counted, entryText}
+use Rattle.wire.specs.Bytes as wire
+use Rattle.wire.specs.Answer as wire-answer
+use Rattle.firmware.specs.Answer.{answerOf, writeOutcome, writtenLabel, readText}
+use Rattle.firmware.specs.Answer as firmware
+use Rattle.report.specs.Lines.{listLine, pointsLine, refusedAtLine, refusedLine}
+use Rattle.report.specs.Answer.{lineOutcome}
+
+-- the number is one of the codes
+unfoldable pub isOneOf : List ℕ → ℕ → Bool
+isOneOf [] number = false
+isOneOf (code ∷ codes) number = eqb code number || isOneOf codes number
+
+-- an outcome is done, or refused with one of the codes
+pub record Listed (codes : List ℕ) (outcome : Outcome) : Type 0 where
+  pub oneOf : (number position : ℕ) → outcome ≡ refused number position → isOneOf codes number ≡ true
+
+-- an entry with this outcome, that writes these values into this buffer
+pub record Answers (codes : List ℕ) (outcome : Outcome) (values buffer : List ℕ) : Type 0 where
+  -- it is done, or refuses with one of the codes
+  pub listed : Listed codes outcome
+  -- a refusal writes nothing
+  pub untouched : (number position : ℕ) → outcome ≡ refused number position → bufferAfter outcome values buffer ≡ buffer
+  -- if it is done, the values stand before the count
+  pub written : (count : ℕ) → outcome ≡ done count → take count (bufferAfter outcome values buffer) ≡ values
+  -- the count, 0 of a refusal, is within the buffer, which is as long as before, and nothing changes from the count on
+  pub within : firmware.countOf outcome ≤ length buffer
+  pub asLong : length (bufferAfter outcome values buffer) ≡ length buffer
+  pub unchanged : drop (firmware.countOf outcome) (bufferAfter outcome values buffer) ≡ drop (firmware.countOf outcome) buffer
+
+-- the one number of an outcome tells which it is: below 1000 a count, at most this one, and else 1000 plus the refusal's number
+pub record Tells (most : ℕ) (outcome : Outcome) : Type 0 where
+  pub counts : answerOf outcome < 1000 → (outcome ≡ done (answerOf outcome)) × (answerOf outcome ≤ most)
+  pub refuses : (number : ℕ) → answerOf outcome ≡ 1000 + number → (position : ℕ) × (outcome ≡ refused number position)
+
+-- the numbers of each scheme, writing and reading
+unfoldable pub encodeCodes : Scheme → List ℕ
+encodeCodes Altdude = 1 ∷ 2 ∷ 4 ∷ 5 ∷ 3 ∷ []
+encodeCodes Lace = 1 ∷ 2 ∷ 4 ∷ 6 ∷ 3 ∷ []
+
+unfoldable pub decodeCodes : Scheme → List ℕ
+decodeCodes Altdude = 1 ∷ 2 ∷ 3 ∷ 7 ∷ 5 ∷ 9 ∷ []
+decodeCodes Lace = 1 ∷ 2 ∷ 3 ∷ 8 ∷ 7 ∷ 9 ∷ 6 ∷ []
+
+-- of a table: its own, and those of a label of 1 to 63 bytes
+unfoldable pub tableCodes : List ℕ
+tableCodes = 13 ∷ 14 ∷ 7 ∷ 5 ∷ 8 ∷ 9 ∷ 6 ∷ []
+
+-- of the C interface: 4 can't come, since paired units make points
+unfoldable pub writeCodes : List ℕ
+writeCodes = 11 ∷ 1 ∷ 12 ∷ 2 ∷ 3 ∷ 10 ∷ 5 ∷ 6 ∷ []
+
+unfoldable pub readCodes : List ℕ
+readCodes = 11 ∷ 1 ∷ 2 ∷ 3 ∷ 8 ∷ 7 ∷ 5 ∷ 9 ∷ 6 ∷ []
+
+-- a table whose header is lawful, and that is shorter than its count asks
+pub record Cut (table : List ℕ) : Type 0 where
+  pub kind : at table 0 ≡ 0x48
+  pub header : 3 ≤ length table
+  pub some : 1 ≤ nametable.countOf table
+  pub few : nametable.countOf table ≤ 500
+  pub short : length table < 3 + 67 * nametable.countOf table
+
+-- every entry by name
+pub record Demand1 : Type 0 where
+  -- utf16
+  pub toUnits : (points : List ℕ) (count : ℕ) (units : List ℕ)
+      → Answers (1 ∷ 4 ∷ []) (utf16-answer.toUnitsOutcome points count (length units)) (utf16.toUnits (take count points)) units
+  pub toPoints : (units : List ℕ) (count : ℕ) (points : List ℕ)
+      → Answers (1 ∷ 10 ∷ []) (utf16-answer.toPointsOutcome units count (length points)) (utf16.toPoints (take count units)) points
+  -- its order: 1, then 4 or 10
+  pub toUnitsOrder : (points : List ℕ) (count capacity : ℕ)
+      → Settles (toUnitsCauses points count capacity) (length (utf16.toUnits (take count points))) (utf16-answer.toUnitsOutcome points count capacity)
+  pub toPointsOrder : (units : List ℕ) (count capacity : ℕ)
+      → Settles (toPointsCauses units count capacity) (length (utf16.toPoints (take count units))) (utf16-answer.toPointsOutcome units count capacity)
+  -- base32
+  pub base32Encode : (octets characters : List ℕ)
+      → Answers (1 ∷ []) (base32.encodeOutcome octets (length characters)) (charactersOf alphabet.lace octets) characters
+  pub base32Decode : (characters octets : List ℕ)
+      → Answers (1 ∷ 7 ∷ 9 ∷ []) (base32.decodeOutcome characters (length octets)) (toOctets (alphabet.valuesOf alphabet.lace characters)) octets
+  -- altdude, lace, and by scheme
+  pub altdudeEncode : (text label : List ℕ)
+      → Answers (encodeCodes Altdude) (altdude.encodeOutcome (length label) text) (altdude-encoding.labelOf text) label
+  pub altdudeDecode : (label text : List ℕ)
+      → Answers (decodeCodes Altdude) (altdude.decodeOutcome (length text) label) (altdude-decoding.textOf label) text
+  pub laceEncode : (text label : List ℕ)
+      → Answers (encodeCodes Lace) (lace.encodeOutcome isAllLdh (length label) text) (lace-encoding.labelOf text) label
+  pub laceDecode : (label text : List ℕ)
+      → Answers (decodeCodes Lace) (lace.decodeOutcome isAllLdh (length text) label) (lace-decoding.textOf label) text
+  pub schemeEncode : (s : Scheme) (text label : List ℕ)
+      → Answers (encodeCodes s) (scheme.encodeOutcome s (length label) text) (scheme.labelOf s text) label
+  pub schemeDecode : (s : Scheme) (label text : List ℕ)
+      → Answers (decodeCodes s) (scheme.decodeOutcome s (length text) label) (scheme.textOf s label) text
+  -- nametable: `read` is lent no buffer to write
+  pub tableRead : (table : List ℕ) → Listed tableCodes (readOutcome table)
+  pub tableEntry : (table : List ℕ) (index : ℕ) (text : List ℕ)
+      → Answers (1 ∷ tableCodes) (counted (findOutcome table index (length text))) (entryText table index) text
+  -- wire
+  pub bytesToUnits : (bytes units : List ℕ)
+      → Answers (1 ∷ 12 ∷ []) (wire-answer.toUnitsOutcome bytes (length units)) (wire.toUnits bytes) units
+  pub unitsToBytes : (units : List ℕ) (count : ℕ) (bytes : List ℕ)
+      → Answers (1 ∷ []) (wire-answer.toBytesOutcome units count (length bytes)) (wire.toBytes (take count units)) bytes
+  -- firmware: what is left, and what the number says
+  pub write : (number : ℕ) (text label : List ℕ) → AllBelow 256 text
+      → Answers writeCodes (writeOutcome number (length label) text) (writtenLabel number text) label
+  pub writeTells : (number capacity : ℕ) (text : List ℕ) → Tells 63 (writeOutcome number capacity text)
+  pub read : (number : ℕ) (label text : List ℕ)
+      → Answers readCodes (firmware.readOutcome number (length text) label) (readText number label) text
+  pub readTells : (number capacity : ℕ) (label : List ℕ) → Tells 252 (firmware.readOutcome number capacity label)
+  -- report
+  pub listLines : (reader letter : ℕ) (points out : List ℕ)
+      → Answers (1 ∷ []) (lineOutcome (listLine reader letter points) (length out)) (listLine reader letter points) out
+  pub pointsLines : (points out : List ℕ) → Answers (1 ∷ []) (lineOutcome (pointsLine points) (length out)) (pointsLine points) out
+  pub refusedAtLines : (code position : ℕ) (out : List ℕ)
+      → Answers (1 ∷ []) (lineOutcome (refusedAtLine code position) (length out)) (refusedAtLine code position) out
+  pub refusedLines : (code : ℕ) (out : List ℕ) → Answers (1 ∷ []) (lineOutcome (refusedLine code) (length out)) (refusedLine code) out
+  -- a table that is cut is 13, from `read`, and from `entry` at any index, given the room
+  pub cutRead : (table : List ℕ) → Cut table → readOutcome table ≡ refused 13 0
+  pub cutEntry : (table : List ℕ) → Cut table → (index capacity : ℕ) → 63 ≤ capacity → findOutcome table index capacity ≡ notFound 13 0
+  -- and so is a whole table that is cut at any byte before its end
+  pub prefixRead : (table : List ℕ) (count k : ℕ) → readOutcome table ≡ done count → k < length table → readOutcome (take k table) ≡ refused 13 0
+  pub prefixEntry : (table : List ℕ) (count k : ℕ) → readOutcome table ≡ done count → k < length table
+      → (index capacity : ℕ) → 63 ≤ capacity → findOutcome (take k table) index capacity ≡ notFound 13 0

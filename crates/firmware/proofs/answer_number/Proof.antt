@@ -1,0 +1,46 @@
+-- `answer_number` meets its contract: a count of at most 252, or an error's number, which is at most 14.
+use native.Mathlib.Omega.{arith}
+use borrow.Author.Needs.{needs}
+use Rattle.basis.specs.Outcome.{bytesOutcome}
+use Rattle.firmware.specs.Answer.{countOf, answerOf}
+use Rattle.firmware.proofs.Steps.{number-below}
+use Rattle.firmware.proofs.answer_number.Statement.{statement}
+use Rattle.firmware.proofs.answer_number.Tie as tie
+
+enum-known-answer : tie.Need-enum-known-answer
+enum-known-answer c = search needs
+
+cast-result : tie.Need-cast-result
+unfolding bytesOutcome countOf
+cast-result c =
+    let few = rw (c .before .before .answer .given .1) at (c .before .before .before .before .pre) in
+    record { fits = omega arith }
+
+enum-known-answer-2 : tie.Need-enum-known-answer-2
+enum-known-answer-2 c = search needs
+
+code-number-requires : tie.Need-code-number-requires
+code-number-requires c κs = search needs
+
+add-result : tie.Need-add-result
+add-result c = record { fits = omega (arith, c .code-number .ensures, number-below (c .before .before .answer2 .given .0 .0)) }
+
+returns : tie.Need-returns
+unfolding bytesOutcome answerOf
+returns c = rw (c .before .before .answer .given .1)
+
+returns-2 : tie.Need-returns-2
+unfolding bytesOutcome answerOf
+returns-2 c = rw (c .before .before .answer2 .given .1, c .code-number .ensures)
+
+pub answer-number-spec : {M : Type 1} → statement M
+answer-number-spec =
+    tie.close
+    (tie.spec
+    enum-known-answer
+    cast-result
+    enum-known-answer-2
+    code-number-requires
+    add-result
+    returns
+    returns-2)

@@ -1,0 +1,82 @@
+-- `read::read_by` meets its contract: room first, then the scheme's own refusal, else the text's bytes.
+use mathlib.Core.Path.{sym, ap, _∙_}
+use native.Mathlib.Omega.{arith}
+use borrow.Author.Needs.{needs}
+use Rattle.basis.specs.Outcome.{bytesOutcome, numberOf}
+use Rattle.utf16.specs.Answer.{pointsOutcome}
+use Rattle.scheme.proofs.Capacity.{decoded-count, decoded-short}
+use Rattle.scheme.proofs.SchemeFacts.{decoded-text}
+use Rattle.firmware.proofs.Steps.{values-fit, values-are}
+use Rattle.firmware.proofs.ReadLaws.{read-1, read-refused, read-done}
+use Rattle.firmware.proofs.read.read_by.Statement.{statement}
+use Rattle.firmware.proofs.read.read_by.Tie as tie
+
+bytes-error-requires : tie.Need-bytes-error-requires
+bytes-error-requires c κs = search needs
+
+returns : tie.Need-returns
+unfolding bytesOutcome numberOf
+returns c = read-1 _ _ _ (omega arith) _ (ap bytesOutcome (c .bytes-error .ensures))
+
+slice-aggregate-decode : tie.Need-slice-aggregate-decode
+slice-aggregate-decode c = search needs
+
+decode-requires : tie.Need-decode-requires
+decode-requires c κs = search needs
+
+enum-known-answer : tie.Need-enum-known-answer
+enum-known-answer c = search needs
+
+bytes-error-requires-2 : tie.Need-bytes-error-requires-2
+bytes-error-requires-2 c κs = search needs
+
+enum-known-answer-2 : tie.Need-enum-known-answer-2
+enum-known-answer-2 c = search needs
+
+slice-aggregate-put-text : tie.Need-slice-aggregate-put-text
+slice-aggregate-put-text c = search needs
+
+put-text-requires : tie.Need-put-text-requires
+unfolding pointsOutcome
+put-text-requires c κs =
+    let d = c .before .before .before .before .before .before .decode in
+    let is = sym (d .ensures .0) ∙ ap pointsOutcome (c .before .before .before .answer2 .given .1) in
+    let count = decoded-count _ _ _ _ is in (
+      values-fit _ _ _ _ _ is count (d .ensures .1),
+      (omega (arith, count, decoded-short _ _ _ _ is), (rw (values-are _ _ _ _ _ is count (d .ensures .1)) (decoded-text _ _ _ _ is), omega arith)),
+    )
+
+returns-2 : tie.Need-returns-2
+unfolding pointsOutcome bytesOutcome
+returns-2 c =
+    let d = c .before .before .before .before .before .decode in
+    read-refused _ _ _ (omega arith) _ _ (sym (d .ensures .0) ∙ ap pointsOutcome (c .before .before .answer .given .1)) _ (ap bytesOutcome (c .bytes-error2 .ensures))
+
+same-length : tie.Need-same-length
+same-length c = search needs
+
+returns-3 : tie.Need-returns-3
+unfolding pointsOutcome
+returns-3 c =
+    let p = c .before .before .put-text .ensures in
+    let e = c .before .before .before in
+    let d = e .before .before .before .before .before .before .decode in
+    let is = sym (d .ensures .0) ∙ ap pointsOutcome (e .before .before .before .answer2 .given .1) in
+    read-done _ _ _ (omega arith) _ is _ (values-are _ _ _ _ _ is (decoded-count _ _ _ _ is) (d .ensures .1)) _ _ (p .0) (p .1)
+
+pub read-by-spec : {M : Type 1} → statement M
+read-by-spec =
+    tie.close
+    (tie.spec
+    bytes-error-requires
+    returns
+    slice-aggregate-decode
+    decode-requires
+    enum-known-answer
+    bytes-error-requires-2
+    enum-known-answer-2
+    slice-aggregate-put-text
+    put-text-requires
+    returns-2
+    same-length
+    returns-3)

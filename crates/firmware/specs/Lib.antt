@@ -1,0 +1,3 @@
+-- What the C interface answers, and the causes of its refusals.
+pub mod Answer
+pub mod Causes

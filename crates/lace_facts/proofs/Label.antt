@@ -1,0 +1,204 @@
+-- Laws on labels: the octets of the characters are those of the rules of form, and a label that passes the tests is formed.
+use Prim.Native.Nat.{ℕ, _≤_}
+use mathlib.Core.Path.{_≡_, refl, sym, ap, _∙_, fun-ext, subst}
+use mathlib.Core.Bool.{true}
+use mathlib.Core.Logic.{_↔_}
+use mathlib.Core.List.{List, map, map-map}
+use lib.ListN.{length, length-drop, length-map}
+use borrow.Author.Tests.{eq-eqb, eqb-true}
+use native.Mathlib.Omega.{arith}
+use Rattle.basis.specs.Rows.{at, tabulate, AllBelow}
+use Rattle.basis.specs.Case.{small}
+use Rattle.basis.proofs.Tests.{both-left, both-right, both-true, at-each, none-iff, each-at, first-before, first-none}
+use Rattle.basis.proofs.Lists.{map-same, row-tabulate, tabulate-at, row-below}
+use Rattle.basis.proofs.Case.{small-small}
+use Rattle.utf16.specs.Units.{toPoints, unpairedAt, firstUnpaired}
+use Rattle.utf16.proofs.RoundTrip.{length-toPoints}
+use Rattle.base32.specs.Alphabet.{lace, valueOf, isCharacter, valuesOf}
+use Rattle.base32.specs.Bits.{rowBit, group, regroup}
+use Rattle.base32.specs.Form.{octetCount, isLawful}
+use Rattle.base32.specs.Base32.{quintetCount, toOctets}
+use Rattle.base32.specs.Answer.{firstOutside}
+use Rattle.base32.proofs.Inverse.{value-same}
+use Rattle.base32.proofs.Bits.{rowBit-lt, bits-back, row-back}
+use Rattle.base32.proofs.Regroup.{length-toOctets, toOctets-below, octets-past, count-lawful}
+use Rattle.base32.proofs.Values.{length-values, octets-tabulate}
+use Rattle.lace.specs.Prefix.{hasPrefix, afterPrefix}
+use Rattle.lace_facts.specs.WellFormed.{OctetsIn, StandFor, Formed}
+use Rattle.lace.specs.Decoding.{unitsOf, standForUnits, labelOctets, labelUnits, isReadable, textOf}
+use Rattle.lace_facts.proofs.PrefixLaws.{at-small, prefix-iff, prefix-small, after-small}
+use Rattle.lace.proofs.Runs.{units-few}
+use Rattle.lace.proofs.DecodeLaws.{units-le}
+use Rattle.lace_facts.proofs.UnitOctets.{stand-read, units-some, stand-decided, stand-units}
+
+-- the values look at the small forms alone
+value-small : (b : ℕ) → valueOf lace (small b) ≡ valueOf lace b
+value-small b = value-same lace (small b) b (small-small b)
+
+pub values-small : (cs : List ℕ) → valuesOf lace (map small cs) ≡ valuesOf lace cs
+unfolding valuesOf
+values-small cs = map-map (valueOf lace) small cs ∙ map-same (λ b. valueOf lace (small b)) (valueOf lace) cs (λ i h. value-small (at cs i))
+
+outside-small : (cs : List ℕ) → firstOutside lace (map small cs) ≡ firstOutside lace cs
+unfolding firstOutside isCharacter
+outside-small cs = simp (length-map, at-small, value-small)
+
+-- so do the octets, the units and the text of a label, and the test of it
+octets-small : (l : List ℕ) → labelOctets (map small l) ≡ labelOctets l
+unfolding labelOctets
+octets-small l = ap toOctets (ap (valuesOf lace) (after-small l) ∙ values-small (afterPrefix l))
+
+units-small : (l : List ℕ) → labelUnits (map small l) ≡ labelUnits l
+unfolding labelUnits
+units-small l = ap unitsOf (octets-small l)
+
+pub text-small : (l : List ℕ) → textOf (map small l) ≡ textOf l
+unfolding textOf
+text-small l = ap toPoints (units-small l)
+
+readable-small : (l : List ℕ) → isReadable (map small l) ≡ isReadable l
+unfolding isReadable
+readable-small l = rw (octets-small l, units-small l, after-small l, values-small (afterPrefix l))
+
+-- what looks at the small forms alone is the same of labels that differ at most in case
+case-same : {A : Type 0} (f : List ℕ → A) → ((l : List ℕ) → f (map small l) ≡ f l) → (l k : List ℕ) → map small l ≡ map small k → f l ≡ f k
+case-same f small-same l k e = sym (small-same l) ∙ ap f e ∙ small-same k
+
+pub units-case : (l k : List ℕ) → map small l ≡ map small k → labelUnits l ≡ labelUnits k
+units-case = case-same labelUnits units-small
+
+-- the octets that the rules of form speak of are those that are read: the bits say each of them, and past them all are zero
+module _ (cs os : List ℕ) where
+  octets-are : OctetsIn cs os → os ≡ toOctets (valuesOf lace cs)
+  unfolding regroup
+  octets-are o =
+      sym (tabulate-at os)
+      ∙ ap (tabulate (length os)) (fun-ext (λ i. sym (row-back 8 (at os) i (row-below 256 os (omega arith) (o .small) i)) ∙ ap (λ (bits : ℕ → ℕ). group 8 bits i) (fun-ext (o .bits))))
+      ∙ sym (octets-tabulate lace cs (length os) (o .count))
+
+  octets-in : isLawful (valuesOf lace cs) ≡ true → os ≡ toOctets (valuesOf lace cs) → OctetsIn cs os
+  unfolding regroup isLawful toOctets
+  octets-in lawful e =
+      let qs = valuesOf lace cs in
+      record {
+        count = ap length e ∙ length-toOctets qs ∙ ap octetCount (length-values lace cs);
+        small = subst (AllBelow 256) (sym e) (toOctets-below qs);
+        bits = λ k.
+            ap (λ (row : ℕ → ℕ). rowBit 8 row k) (ap at e ∙ fun-ext (row-tabulate (octetCount (length qs)) (regroup 5 8 (at qs)) (octets-past qs (both-right _ _ lawful))))
+            ∙ bits-back 8 (rowBit 5 (at qs)) (omega arith) (rowBit-lt 5 (at qs)) k;
+      }
+
+pub octets-iff : (cs os : List ℕ) → isLawful (valuesOf lace cs) ≡ true → OctetsIn cs os ↔ (os ≡ toOctets (valuesOf lace cs))
+octets-iff cs os lawful = (octets-are cs os, octets-in cs os lawful)
+
+-- the octets of a label are octets, and few
+pub label-octets-below : (l : List ℕ) → AllBelow 256 (labelOctets l)
+unfolding labelOctets
+label-octets-below l = toOctets-below (valuesOf lace (afterPrefix l))
+
+pub label-octets-count : (l : List ℕ) → length (labelOctets l) ≡ octetCount (length (afterPrefix l))
+unfolding labelOctets
+label-octets-count l = length-toOctets (valuesOf lace (afterPrefix l)) ∙ ap octetCount (length-values lace (afterPrefix l))
+
+pub label-octets-few : (l : List ℕ) → length l ≤ 63 → length (labelOctets l) ≤ 36
+label-octets-few l h = omega (arith, label-octets-count l, length-drop 4 l)
+
+octets-short : (l : List ℕ) → length l ≤ 63 → length (labelOctets l) ≤ 254
+octets-short l h = omega (arith, label-octets-few l h)
+
+-- a text has at most as many points as its label has bytes
+pub text-fits : (l : List ℕ) → length (textOf l) ≤ length l
+unfolding textOf labelUnits
+text-fits l = omega (arith, length-toPoints (labelUnits l), units-le (labelOctets l), label-octets-count l, length-drop 4 l)
+
+-- lawful characters, one or more, hold one octet or more
+lawful-some : (l : List ℕ) → 1 ≤ length (afterPrefix l) → isLawful (valuesOf lace (afterPrefix l)) ≡ true → 1 ≤ length (labelOctets l)
+unfolding isLawful
+lawful-some l some lawful =
+    let e : quintetCount (length (labelOctets l)) ≡ length (afterPrefix l) = rw label-octets-count (count-lawful (length (afterPrefix l)) (rw length-values at (both-left _ _ lawful))) in
+    omega arith
+
+-- a label passes the tests
+pub record Passes (l : List ℕ) : Type 0 where
+  pub short : length l ≤ 63
+  pub first : hasPrefix l ≡ true
+  pub inside : firstOutside lace (afterPrefix l) ≡ length (afterPrefix l)
+  pub readable : isReadable l ≡ true
+
+-- so does a label that differs in case at most
+pub passes-case : (l k : List ℕ) → map small l ≡ map small k → Passes l → Passes k
+passes-case l k e p = record {
+  short = let s = p .short in omega (arith, case-same length (λ l. length-map l small) l k e);
+  first = sym (case-same hasPrefix prefix-small l k e) ∙ p .first;
+  inside = sym (case-same (λ l. firstOutside lace (afterPrefix l)) (λ l. ap (firstOutside lace) (after-small l) ∙ outside-small (afterPrefix l)) l k e)
+      ∙ p .inside
+      ∙ case-same (λ l. length (afterPrefix l)) (λ l. ap length (after-small l) ∙ length-map (afterPrefix l) small) l k e;
+  readable = sym (case-same isReadable readable-small l k e) ∙ p .readable;
+}
+
+-- what a label that passes the tests holds
+module _ (l : List ℕ) (p : Passes l) where
+  pub passes-lawful : isLawful (valuesOf lace (afterPrefix l)) ≡ true
+  unfolding isReadable
+  passes-lawful = both-left _ _ (p .readable)
+
+  pub passes-stand : standForUnits (labelOctets l) ≡ true
+  unfolding isReadable
+  passes-stand = both-left _ _ (both-right _ _ (p .readable))
+
+  pub passes-paired : firstUnpaired (labelUnits l) ≡ length (labelUnits l)
+  unfolding isReadable
+  passes-paired = eqb-true _ _ (both-right _ _ (both-right _ _ (p .readable)))
+
+-- the test holds exactly where some units make the label formed, and those are the units that are read
+pub passes-formed : (l : List ℕ) → Passes l → Formed l (labelUnits l)
+unfolding labelUnits labelOctets firstOutside firstUnpaired
+passes-formed l p = record {
+  short = p .short;
+  first = prefix-iff l .0 (p .first);
+  characters = at-each _ _ (none-iff _ _ .0 (p .inside));
+  some = omega (arith, one, label-octets-count l);
+  lawful = passes-lawful l p;
+  octets = labelOctets l;
+  octetsIn = octets-iff (afterPrefix l) (labelOctets l) (passes-lawful l p) .1 refl;
+  standFor = stand (stand-decided (labelOctets l) (label-octets-below l) one (octets-short l (p .short)) .0 (passes-stand l p));
+  paired = λ i h. first-before (length (labelUnits l)) (unpairedAt 0 (labelUnits l)) i (rw (passes-paired l p) h);
+}
+  where
+    one : 1 ≤ length (labelOctets l)
+    one =
+        let os = labelOctets l in
+        omega (arith, units-few (unitsOf os) (units-some os (passes-stand l p)), ap length (stand-read os (label-octets-below l) (passes-stand l p)))
+
+    stand : (units : List ℕ) × StandFor (labelOctets l) units → StandFor (labelOctets l) (unitsOf (labelOctets l))
+    stand (units, s) = rw (stand-units (labelOctets l) units (label-octets-below l) (octets-short l (p .short)) s) at s
+
+module _ (l units : List ℕ) (f : Formed l units) where
+  octets-same : f .octets ≡ labelOctets l
+  unfolding labelOctets
+  octets-same = octets-iff (afterPrefix l) (f .octets) (f .lawful) .0 (f .octetsIn)
+
+  stands : StandFor (labelOctets l) units
+  stands = rw octets-same at (f .standFor)
+
+  pub formed-units : units ≡ labelUnits l
+  unfolding labelUnits
+  formed-units = stand-units (labelOctets l) units (label-octets-below l) (octets-short l (f .short)) stands
+
+  all-paired : firstUnpaired (labelUnits l) ≡ length (labelUnits l)
+  unfolding firstUnpaired
+  all-paired = rw (← formed-units) (first-none (length units) (unpairedAt 0 units) (f .paired))
+
+  pub formed-passes : Passes l
+  unfolding isReadable firstOutside
+  formed-passes = record {
+    short = f .short;
+    first = prefix-iff l .1 (f .first);
+    inside = none-iff _ _ .1 (each-at _ _ (f .characters));
+    readable = both-true (f .lawful)
+        (both-true (stand-decided (labelOctets l) (label-octets-below l) (lawful-some l (f .some) (f .lawful)) (octets-short l (f .short)) .1 (units, stands))
+        (eq-eqb _ _ all-paired));
+  }
+
+pub formed-iff : (l : List ℕ) → Passes l ↔ ((units : List ℕ) × Formed l units)
+formed-iff l = (λ p. (labelUnits l, passes-formed l p), λ f. formed-passes l (f .0) (f .1))

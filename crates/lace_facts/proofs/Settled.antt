@@ -1,0 +1,65 @@
+-- The causes of refusal settle what encoding and decoding answer.
+use Prim.Native.Nat.{ℕ, _+_, _≤_, _<_}
+use mathlib.Core.Path.{_≡_, refl, sym, ap, _∙_}
+use mathlib.Core.Bool.{Bool, true, not}
+use mathlib.Core.Logic.{_↔_, Iff·rfl}
+use mathlib.Core.List.{List, _∷_}
+use lib.ListN.{length}
+use borrow.Author.Tests.{ltb-false, not-false}
+use Rattle.basis.specs.Rows.{at}
+use Rattle.basis.specs.Causes.{whole, placed, Settles}
+use Rattle.basis.proofs.Tests.{ltb-iff, eqb-iff, fails-iff}
+use Rattle.basis.proofs.Causes.{settle-whole, settle-place, settle-first, settle-done}
+use Rattle.utf16.specs.Points.{isPoint, firstNotPoint}
+use Rattle.base32.specs.Alphabet.{lace, isCharacter}
+use Rattle.base32.specs.Answer.{firstOutside}
+use Rattle.lace.specs.Prefix.{hasPrefix, afterPrefix}
+use Rattle.lace.specs.Encoding.{labelOf}
+use Rattle.lace_facts.specs.WellFormed.{Formed}
+use Rattle.lace.specs.Decoding.{isReadable, labelUnits, textOf}
+use Rattle.lace.specs.Answer.{encodeOutcome, decodeOutcome}
+use Rattle.lace_facts.specs.Causes.{OutsideAfterPrefix, NotFormed, OnlyReserved, textCauses, labelCauses}
+use Rattle.lace_facts.proofs.PrefixLaws.{prefix-iff}
+use Rattle.lace_facts.proofs.Label.{Passes, passes-formed, formed-units, formed-iff}
+
+-- given the earlier tests, the later ones fail exactly where their causes stand
+module _ (l : List ℕ) (short : length l ≤ 63) (first : hasPrefix l ≡ true) (inside : firstOutside lace (afterPrefix l) ≡ length (afterPrefix l)) where
+  passes : isReadable l ≡ true → Passes l
+  passes e = record { short = short; first = first; inside = inside; readable = e }
+
+  readable-iff : (isReadable l ≡ true) ↔ ((units : List ℕ) × Formed l units)
+  readable-iff = (λ e. formed-iff l .0 (passes e), λ f. formed-iff l .1 f .readable)
+
+  pub unreadable-iff : (not (isReadable l) ≡ true) ↔ NotFormed l
+  unreadable-iff = let i = fails-iff (isReadable l) readable-iff in (λ e units f. i .0 e (units, f), λ n. i .1 (λ f. n (f .0) (f .1)))
+
+  pub reserved-iff : (reserved : List ℕ → Bool) → isReadable l ≡ true → (reserved (labelUnits l) ≡ true) ↔ OnlyReserved reserved l
+  reserved-iff reserved e = (
+    λ r. (labelUnits l, passes-formed l (passes e), r),
+    λ f. ap reserved (sym (formed-units l (f .0) (f .1))) ∙ f .2,
+  )
+
+pub decode-settled : (reserved : List ℕ → Bool) (capacity : ℕ) (l : List ℕ) → Settles (whole 1 (capacity < 63) ∷ labelCauses reserved l) (length (textOf l)) (decodeOutcome reserved capacity l)
+unfolding decodeOutcome firstOutside
+decode-settled reserved capacity l =
+    settle-whole _ 1 (ltb-iff capacity 63)
+    (λ _. settle-whole _ 2 (eqb-iff (length l) 0)
+    (λ _. settle-whole _ 3 (ltb-iff 63 (length l))
+    (λ s. settle-whole _ 8 (fails-iff (hasPrefix l) (prefix-iff l))
+    (λ p.
+    let short = ltb-false _ _ s in
+    let first = not-false _ p in
+    settle-place (length (afterPrefix l)) (λ k. not (isCharacter lace (at (afterPrefix l) k))) (placed 7 (OutsideAfterPrefix l)) (λ i. 4 + i) (λ i h. (i, refl, h)) (λ p h. h)
+    (λ inside. settle-whole _ 9 (unreadable-iff l short first inside)
+    (λ r. settle-whole _ 6 (reserved-iff l short first inside reserved (not-false _ r))
+    (λ _. settle-done (length (textOf l)))))))))
+
+pub encode-settled : (reserved : List ℕ → Bool) (capacity : ℕ) (t : List ℕ) → Settles (whole 1 (capacity < 63) ∷ textCauses reserved t) (length (labelOf t)) (encodeOutcome reserved capacity t)
+unfolding encodeOutcome firstNotPoint
+encode-settled reserved capacity t =
+    settle-whole _ 1 (ltb-iff capacity 63)
+    (λ _. settle-whole _ 2 (eqb-iff (length t) 0)
+    (λ _. settle-first (length t) (λ k. not (isPoint (at t k))) 4
+    (λ _. settle-whole _ 6 Iff·rfl
+    (λ _. settle-whole _ 3 (ltb-iff 63 (length (labelOf t)))
+    (λ _. settle-done (length (labelOf t)))))))

@@ -1,0 +1,65 @@
+-- The causes of refusal, each by itself, and LACE as a scheme.
+use Prim.Native.Nat.{ℕ, _+_, _<_}
+use mathlib.Core.Path.{_≡_}
+use mathlib.Core.Bool.{Bool, true}
+use mathlib.Core.List.{List, [], _∷_}
+use lib.ListN.{length}
+use Rattle.basis.specs.Rows.{at}
+use Rattle.basis.specs.Case.{small}
+use Rattle.basis.specs.Causes.{Cause, whole, placed}
+use Rattle.basis.specs.Scheme.{Scheme}
+use Rattle.utf16.specs.Causes.{NotAPointAt}
+use Rattle.base32.specs.Alphabet.{lace}
+use Rattle.base32.specs.Causes.{OutsideAt}
+use Rattle.lace.specs.Prefix.{prefix, afterPrefix}
+use Rattle.lace.specs.Encoding.{labelOf}
+use Rattle.lace_facts.specs.WellFormed.{Formed, WellFormed}
+use Rattle.lace.specs.Decoding.{textOf}
+use Rattle.lace.specs.Answer.{encodeOutcome, decodeOutcome}
+
+-- 2: empty
+abbrev pub Empty : List ℕ → Type 0
+Empty xs = length xs ≡ 0
+
+-- 3: over 63 bytes
+abbrev pub TooLong : List ℕ → Type 0
+TooLong l = 63 < length l
+
+-- 8: the prefix is missing
+abbrev pub NoPrefix : List ℕ → Type 0
+NoPrefix l = ((i : ℕ) → i < 4 → small (at l i) ≡ at prefix i) → ⊥
+
+-- 7: a byte after the prefix that is none of the 32, the first at this index of the label
+abbrev pub OutsideAfterPrefix : List ℕ → ℕ → Type 0
+OutsideAfterPrefix l position = (i : ℕ) × (position ≡ 4 + i) × OutsideAt lace (afterPrefix l) i
+
+-- 9: not admitted by the rules of form, the last aside
+abbrev pub NotFormed : List ℕ → Type 0
+NotFormed l = (units : List ℕ) → Formed l units → ⊥
+
+-- 6: only the last rule stands against the label
+abbrev pub OnlyReserved : (List ℕ → Bool) → List ℕ → Type 0
+OnlyReserved reserved l = (units : List ℕ) × Formed l units × (reserved units ≡ true)
+
+-- against writing a text, in order
+abbrev pub textCauses : (List ℕ → Bool) → List ℕ → List Cause
+textCauses reserved t =
+    whole 2 (Empty t) ∷ placed 4 (NotAPointAt t) ∷ whole 6 (reserved t ≡ true) ∷ whole 3 (TooLong (labelOf t)) ∷ []
+
+-- against reading a label, in order
+abbrev pub labelCauses : (List ℕ → Bool) → List ℕ → List Cause
+labelCauses reserved l =
+    whole 2 (Empty l) ∷ whole 3 (TooLong l) ∷ whole 8 (NoPrefix l) ∷ placed 7 (OutsideAfterPrefix l) ∷ whole 9 (NotFormed l)
+    ∷ whole 6 (OnlyReserved reserved l) ∷ []
+
+-- LACE as a scheme, of which the demands speak
+abbrev pub scheme : (List ℕ → Bool) → Scheme
+scheme reserved = record {
+  encodeOutcome = encodeOutcome reserved;
+  decodeOutcome = decodeOutcome reserved;
+  labelOf = labelOf;
+  textOf = textOf;
+  textCauses = textCauses reserved;
+  labelCauses = labelCauses reserved;
+  WellFormed = WellFormed reserved;
+}

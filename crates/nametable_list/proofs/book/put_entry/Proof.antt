@@ -1,0 +1,75 @@
+-- `book::put_entry` meets its contract: the entry is found, and its line is written whole.
+use native.Mathlib.Omega.{arith}
+use Rattle.nametable_list.specs.Listing.{entryLine}
+use Rattle.nametable_list.proofs.EntryLines.{line-fits, never-error, points-fit, points-long, line-is}
+use Rattle.nametable_list.proofs.Listing.{whole-line}
+use borrow.Author.Needs.{needs}
+use Rattle.nametable_list.proofs.book.put_entry.Statement.{statement}
+use Rattle.nametable_list.proofs.book.put_entry.Tie as tie
+
+slice-aggregate-entry : tie.Need-slice-aggregate-entry
+slice-aggregate-entry c = search needs
+
+entry-requires : tie.Need-entry-requires
+entry-requires c κs = search needs
+
+enum-told : tie.Need-enum-told
+enum-told c = search needs
+
+enum-known-answer : tie.Need-enum-known-answer
+enum-known-answer c = search needs
+
+letter-requires : tie.Need-letter-requires
+letter-requires c κs = search needs
+
+array-share-prefix-points : tie.Need-array-share-prefix-points
+array-share-prefix-points c =
+    let e = c .before .before .before .before .before .entry .ensures in
+    points-fit _ _ (c .before .before .before .before .before .before .before .before .before .pre .0) _ (omega arith) _ (e .0) _ _ _ (c .before .before .answer .given .1) _ _ (e .1)
+
+slice-aggregate-list-line : tie.Need-slice-aggregate-list-line
+slice-aggregate-list-line c =
+    let e = c .before .before .before .before .before .before .entry .ensures in
+    points-long _ _ (c .before .before .before .before .before .before .before .before .before .before .pre .0) _ (omega arith) _ (e .0) _ _ _ (c .before .before .before .answer .given .1) _ _ (e .1)
+
+list-line-requires : tie.Need-list-line-requires
+list-line-requires c κs = search needs
+
+count-requires : tie.Need-count-requires
+count-requires c κs = search needs
+
+returns : tie.Need-returns
+returns c =
+    let e = c .before .before .before .entry .ensures in
+    absurd (never-error _ _ (c .before .before .before .before .before .before .before .pre .0) _ (omega arith) _ (e .0) _ _ (c .enum-told .given .1))
+
+same-length : tie.Need-same-length
+same-length c = search needs
+
+returns-2 : tie.Need-returns-2
+returns-2 c =
+    let p = c .before .before .before .before .before .before in
+    let s = p .before .before .before .before .before .before .before .before .before in
+    let e = p .before .before .before .before .before .entry .ensures in
+    let r = c .before .before .before .list-line .ensures in
+    let a = s .args in
+    whole-line _ (entryLine (a .table .now) (a .index)) (a .out .now)
+    (line-is _ _ (s .pre .0) _ (omega arith) _ (e .0) _ _ _ (p .before .before .answer .given .1) _ _ (e .1) _ (p .letter .ensures))
+    (omega (arith, line-fits (a .table .now) (a .index) (s .pre .0))) _ _ _ (r .0) (r .1) (c .count .ensures)
+
+pub put-entry-spec : {M : Type 1} → statement M
+put-entry-spec =
+    tie.close
+    (tie.spec
+    slice-aggregate-entry
+    entry-requires
+    enum-told
+    enum-known-answer
+    letter-requires
+    array-share-prefix-points
+    slice-aggregate-list-line
+    list-line-requires
+    count-requires
+    returns
+    same-length
+    returns-2)

@@ -1,0 +1,2 @@
+-- What the list of a book of names prints.
+pub mod Listing

@@ -1,0 +1,40 @@
+-- What is printed for a book of names: a line for each entry, or one line with the refusal.
+use Prim.Native.Nat.{ℕ, zero, suc, _<_}
+use mathlib.Core.Path.{_≡_}
+use mathlib.Core.List.{List, [], _++_}
+use Rattle.basis.specs.Outcome.{Outcome, done, refused}
+use Rattle.scheme.specs.Naming.{letterOf}
+use Rattle.nametable.specs.Format.{entryAt, readerOf, schemeIn}
+use Rattle.nametable.specs.Answer.{readOutcome, entryText}
+use Rattle.report.specs.Lines.{listLine, refusedAtLine}
+
+-- the line of the entry at an index: reader number, letter of the scheme and points
+unfoldable pub entryLine : List ℕ → ℕ → List ℕ
+entryLine table index = listLine (readerOf (entryAt table index)) (letterOf (schemeIn (entryAt table index))) (entryText table index)
+
+-- the lines of the first entries, so many
+unfoldable pub entryLines : List ℕ → ℕ → List ℕ
+entryLines table zero = []
+entryLines table (suc count) = entryLines table count ++ entryLine table count
+
+-- after the table's own verdict
+unfoldable pub listingAfter : Outcome → List ℕ → List ℕ
+listingAfter (done count) table = entryLines table count
+listingAfter (refused number position) table = refusedAtLine number position
+
+-- what is printed for a table
+unfoldable pub listing : List ℕ → List ℕ
+listing table = listingAfter (readOutcome table) table
+
+-- the table reads whole, and has an entry at the index
+pub record HasEntry (table : List ℕ) (index : ℕ) : Type 0 where
+  pub count : ℕ
+  pub whole : readOutcome table ≡ done count
+  pub inside : index < count
+
+-- the room that is lent for a line, and for all lines of the fullest table
+abbrev pub lineRoom : ℕ
+lineRoom = 600
+
+abbrev pub listingRoom : ℕ
+listingRoom = 300000

@@ -1,0 +1,32 @@
+-- `to_units` meets its contract.
+use borrow.Author.Needs.{needs}
+use native.Mathlib.Omega.{arith}
+use Rattle.basis.specs.Outcome.{numberOf}
+use Rattle.basis.proofs.Outcome.{refused-leaves, done-leaves}
+use Rattle.utf16.specs.Answer.{unitsOutcome}
+use Rattle.wire.proofs.Refusals.{no-room, odd-refused, units-done}
+use Rattle.wire.proofs.to_units.Statement.{statement}
+use Rattle.wire.proofs.to_units.Tie as tie
+
+returns : tie.Need-returns
+unfolding unitsOutcome numberOf
+returns c = refused-leaves _ _ _ _ _ (no-room _ _ (c .if1 .taken))
+
+returns-2 : tie.Need-returns-2
+unfolding unitsOutcome numberOf
+returns-2 c = refused-leaves _ _ _ _ _ (odd-refused _ _ (c .before .if1 .left) (c .if2 .taken))
+
+put-units-requires : tie.Need-put-units-requires
+put-units-requires c κs = search needs
+
+same-length : tie.Need-same-length
+same-length c = search needs
+
+returns-3 : tie.Need-returns-3
+unfolding unitsOutcome
+returns-3 c =
+    let p = c .before .before .put-units .ensures in
+    done-leaves _ _ _ _ _ (units-done _ _ (omega arith) (λ e. omega arith) _ (p .0)) (rw (← p .0) at (p .1))
+
+pub to-units-spec : {M : Type 1} → statement M
+to-units-spec = tie.close (tie.spec returns returns-2 put-units-requires same-length returns-3)

@@ -1,0 +1,3 @@
+-- Texts as bytes, and what the two conversions answer.
+pub mod Bytes
+pub mod Answer

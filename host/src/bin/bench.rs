@@ -1,0 +1,208 @@
+//! Times the exported functions beside the independent ones, and the programs.
+//! Not a test: no figure decides anything.
+
+use distelhut_host::compare::{Face, INDEPENDENT};
+use distelhut_host::exported::EXPORTED;
+use distelhut_host::gen::{written, Source};
+use distelhut_host::papers::{book_of, known_rows};
+use distelhut_host::scheme::Scheme;
+use distelhut_host::utf16;
+use std::fs::{self, File};
+use std::hint::black_box;
+use std::io;
+use std::path::{Path, PathBuf};
+use std::process::{Command, ExitCode, Stdio};
+use std::time::{Duration, Instant};
+
+/// How many calls make a run: few, so that most runs are not interrupted.
+const CALLS: u32 = 200;
+
+/// How many runs of calls a figure is the median of.
+const CALL_RUNS: usize = 1001;
+
+/// How many runs of a program a figure is the median of.
+const PROGRAM_RUNS: usize = 15;
+
+/// How many cards the listed book has: the most that one can have.
+const CARDS: u16 = 500;
+
+/// How many lines the bench list is given.
+const LINES: usize = 200_000;
+
+/// The folder of the proved programs.
+const PROGRAMS: &str = concat!(env!("CARGO_MANIFEST_DIR"), "/../target/bin");
+
+/// A name to write and read under a scheme.
+struct Name {
+    about: &'static str,
+    scheme: Scheme,
+    text: Vec<u8>,
+    label: Vec<u8>,
+}
+
+/// A name of these points, with its bytes and its label.
+fn name(about: &'static str, scheme: Scheme, points: &[u32]) -> Name {
+    let units = utf16::units_of(points).expect("the names have points only");
+    let text: Vec<u8> = units.iter().flat_map(|unit| unit.to_be_bytes()).collect();
+    let mut room = [0; 63];
+    let count = scheme.encode(points, &mut room).expect("each name has a label");
+    Name { about, scheme, text, label: room[..count].to_vec() }
+}
+
+/// The names that are timed: short, of middle length, and with the longest labels.
+fn names() -> Vec<Name> {
+    let kana = known_rows().pop().expect("the table has rows").text;
+    vec![
+        name("AltDUDE, U+00FC", Scheme::AltDude, &[0xFC]),
+        name("AltDUDE, 7 kana", Scheme::AltDude, &kana),
+        name("AltDUDE, 63 times U+0061", Scheme::AltDude, &[0x61; 63]),
+        name("LACE, U+00FC", Scheme::Lace, &[0xFC]),
+        name("LACE, 7 kana", Scheme::Lace, &kana),
+        name("LACE, 34 times U+0431", Scheme::Lace, &[0x431; 34]),
+    ]
+}
+
+/// The time of a run of writing a name.
+fn write_run(face: &Face, name: &Name) -> Duration {
+    let mut label = [0; 63];
+    let start = Instant::now();
+    for _ in 0..CALLS {
+        black_box((face.write)(name.scheme.number(), black_box(&name.text), &mut label));
+    }
+    start.elapsed()
+}
+
+/// The time of a run of reading a name.
+fn read_run(face: &Face, name: &Name) -> Duration {
+    let mut text = [0; 252];
+    let start = Instant::now();
+    for _ in 0..CALLS {
+        black_box((face.read)(name.scheme.number(), black_box(&name.label), &mut text));
+    }
+    start.elapsed()
+}
+
+/// The middle one of some times.
+fn median(mut times: Vec<Duration>) -> Duration {
+    times.sort();
+    times[times.len() / 2]
+}
+
+/// Prints the nanoseconds of a call, exported and independent, run by turns.
+fn print_calls(about: &str, name: &Name, run: fn(&Face, &Name) -> Duration) {
+    let (mut exported, mut independent) = (Vec::new(), Vec::new());
+    for _ in 0..CALL_RUNS {
+        exported.push(run(&EXPORTED, name));
+        independent.push(run(&INDEPENDENT, name));
+    }
+    let [exported, independent] =
+        [exported, independent].map(|times| median(times).as_nanos() / u128::from(CALLS));
+    println!(
+        "| {about}, {} | {} | {} | {exported} | {independent} |",
+        name.about,
+        name.text.len(),
+        name.label.len()
+    );
+}
+
+/// A book with as many cards as there can be, under both schemes.
+fn long_book() -> Vec<u8> {
+    let mut source = Source::new(1);
+    let mut card = |reader| {
+        let scheme = source.pick(&[Scheme::AltDude, Scheme::Lace]);
+        (scheme.kind(), reader, written(&mut source, scheme))
+    };
+    book_of(&(1..=CARDS).map(&mut card).collect::<Vec<_>>())
+}
+
+/// Lines with a lawful LACE label each.
+fn label_lines() -> Vec<u8> {
+    let mut source = Source::new(1);
+    let mut lines = Vec::new();
+    for _ in 0..LINES {
+        lines.extend(written(&mut source, Scheme::Lace));
+        lines.push(b'\n');
+    }
+    lines
+}
+
+/// A program's command on a file of input.
+fn command(program: &Path, input: &Path) -> io::Result<Command> {
+    let mut command = Command::new(program);
+    command.stdin(File::open(input)?);
+    Ok(command)
+}
+
+/// The time of a run of a program, from its start to its end, its output dropped.
+fn program_run(program: &Path, input: &Path) -> io::Result<Duration> {
+    let mut command = command(program, input)?;
+    let start = Instant::now();
+    command.stdout(Stdio::null()).status()?;
+    Ok(start.elapsed())
+}
+
+/// How many lines a program prints, those of refusals left out.
+fn lines_printed(program: &Path, input: &Path) -> io::Result<usize> {
+    let output = command(program, input)?.output()?.stdout;
+    let lines = output.split_inclusive(|&byte| byte == b'\n');
+    Ok(lines.filter(|line| !line.starts_with(b"refused")).count())
+}
+
+/// The lines a second of a program on an input of so many lines.
+fn lines_a_second(program: &Path, input: &Path, lines: usize) -> io::Result<u64> {
+    let printed = lines_printed(program, input)?;
+    if printed != lines {
+        return Err(io::Error::other(format!("{printed} lines, and not {lines}")));
+    }
+    let times: io::Result<Vec<Duration>> =
+        (0..PROGRAM_RUNS).map(|_| program_run(program, input)).collect();
+    Ok((lines as f64 / median(times?).as_secs_f64()) as u64)
+}
+
+/// Prints the lines a second of a program, if it was built.
+fn print_program(name: &str, input: &[u8], lines: usize) -> io::Result<()> {
+    let program = Path::new(PROGRAMS).join(name);
+    if !program.exists() {
+        println!("| {name} | {lines} | not built |");
+        return Ok(());
+    }
+    let file = input_file(name);
+    fs::write(&file, input)?;
+    let rate = lines_a_second(&program, &file, lines);
+    fs::remove_file(&file)?;
+    println!("| {name} | {lines} | {} |", rate?);
+    Ok(())
+}
+
+/// Where a program's input stands while it is timed.
+fn input_file(name: &str) -> PathBuf {
+    std::env::temp_dir().join(format!("distelhut-{name}-{}", std::process::id()))
+}
+
+/// Prints both tables.
+fn print() -> io::Result<()> {
+    println!("Medians of {CALL_RUNS} runs of {CALLS} calls, buffers not cleared between calls.\n");
+    println!("| call | text bytes | label bytes | exported, ns | independent, ns |");
+    println!("|---|---|---|---|---|");
+    for name in names() {
+        print_calls("write", &name, write_run);
+        print_calls("read", &name, read_run);
+    }
+    println!(
+        "\nMedians of {PROGRAM_RUNS} runs, from a program's start to its end, output dropped.\n"
+    );
+    println!("| program | lines | lines a second |");
+    println!("|---|---|---|");
+    print_program("nametable_list", &long_book(), usize::from(CARDS))?;
+    print_program("bench_list", &label_lines(), LINES)
+}
+
+fn main() -> ExitCode {
+    match print() {
+        Ok(()) => ExitCode::SUCCESS,
+        Err(error) => {
+            eprintln!("bench: {error}");
+            ExitCode::FAILURE
+        }
+    }
+}

@@ -1,0 +1,38 @@
+//! Compares the proved library's exported functions with the independent ones.
+//!
+//! compare [N] [SEED]
+
+use distelhut_host::compare::{compare, INDEPENDENT};
+use distelhut_host::exported::EXPORTED;
+use std::process::ExitCode;
+
+const USAGE: &str = "usage: compare [N] [SEED]
+  N     how many generated calls follow the fixed ones (400000)
+  SEED  the seed of the generator (1)";
+
+/// Reads the arguments; none if they are not as the usage says.
+fn wish(mut arguments: impl Iterator<Item = String>) -> Option<(usize, u64)> {
+    let count = arguments.next().map_or(Some(400_000), |word| word.parse().ok())?;
+    let seed = arguments.next().map_or(Some(1), |word| word.parse().ok())?;
+    match arguments.next() {
+        None => Some((count, seed)),
+        Some(_) => None,
+    }
+}
+
+fn main() -> ExitCode {
+    let Some((count, seed)) = wish(std::env::args().skip(1)) else {
+        eprintln!("{USAGE}");
+        return ExitCode::from(2);
+    };
+    match compare(count, seed, &[INDEPENDENT, EXPORTED]) {
+        Ok(line) => {
+            println!("compare: {line}");
+            ExitCode::SUCCESS
+        }
+        Err(difference) => {
+            println!("compare: {difference}");
+            ExitCode::FAILURE
+        }
+    }
+}
