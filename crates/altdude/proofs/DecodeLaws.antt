@@ -1,5 +1,4 @@
--- Reading a label: when a symbol stops the row and the state after one that does not, the turns of the two loops, and what
--- each return of `decode` answers.
+-- Reading a label: when a symbol stops the row, the state after one that does not, and the turns of the two loops.
 use Prim.Native.Nat.{ℕ, _+_, _-_, _*_, _^_, _<_, _≤_}
 use mathlib.Core.Path.{_≡_, refl, sym, ap, subst, _∙_}
 use mathlib.Core.Bool.{Bool, true, false, not}
@@ -10,27 +9,18 @@ use native.Mathlib.Omega.{arith}
 use lib.Bits.{bitXor}
 use lib.Dec.{eqb, ltb}
 use lib.ListN.{length, getD, drop, length-append, length-map, drop-of-length-le}
-use lib.Seq.{sets, drop-cons, length-sets}
+use lib.Seq.{sets, drop-cons}
 use borrow.Author.Tests.{lt-ltb, le-ltb, eq-eqb, ne-eqb, eqb-true, eqb-false, not-true, not-false}
 use Rattle.basis.specs.Tests.{both}
-use Rattle.basis.specs.Outcome.{done, refused, refusedIf, numberOf, bufferAfter}
-use Rattle.basis.specs.declared.ErrorCode.{ErrorCode}
-use Rattle.basis.specs.declared.ErrorCode.the-variants.{Capacity, Empty, TooLong, OutsideAlphabet, EdgeHyphen, NotWellFormed}
 use Rattle.basis.proofs.Tests.{cases, by-lt, both-false}
-use Rattle.basis.proofs.Lists.{sets-front}
-use Rattle.basis.proofs.Stores.{sets-append}
-use Rattle.basis.proofs.Outcome.{refused-leaves}
+use Rattle.basis.proofs.Stores.{Storing, storing-all, storing-more, storing-none}
 use Rattle.utf16.specs.Points.{isPoint}
-use Rattle.utf16.specs.Answer.{pointsOutcome}
-use Rattle.utf16.specs.declared.PointsAnswer.{PointsAnswer}
-use Rattle.utf16.specs.declared.PointsAnswer.the-variants.{Points, Error}
 use Rattle.utf16.proofs.Surrogates.{point-top}
 use Rattle.base32.specs.Alphabet.{altdude, valueOf}
 use Rattle.base32.proofs.Inverse.{value-le, altdude-alphabet}
-use Rattle.altdude.specs.Symbols.{symbolOf, isCharacter, hasEdgeHyphen, firstOutside}
+use Rattle.altdude.specs.Symbols.{symbolOf, isCharacter}
 use Rattle.altdude.specs.Decoding.{follows, nextRemembered, nextPending, adds, isReadable, textFrom, textOf}
 use Rattle.altdude.specs.Stepping.{Goes, StepMeans, addsAfter}
-use Rattle.altdude.specs.Answer.{decodeOutcome}
 use Rattle.altdude.specs.declared.decoding.Step.{Step}
 use Rattle.altdude.specs.declared.decoding.Step.the-variants.{Next, Stop}
 use Rattle.altdude.proofs.Xor.{xor-large}
@@ -189,19 +179,17 @@ pub record Reading (l : List ℕ) (all : Bool) (m v i : ℕ) : Type 0 where
   pub pendingSmall : v < 2 ^ 21
   pub inside : i ≤ length l
 
--- where the storing loop stands besides: what is left of the text is still to be stored from the index on
-pub record Storing (l text₀ text : List ℕ) (m v at i : ℕ) : Type 0 where
-  pub stored : sets text at (textFrom m v (map symbolOf (drop i l))) ≡ sets text₀ 0 (textOf l)
-  pub count : length (textOf l) ≡ at + length (textFrom m v (map symbolOf (drop i l)))
-  pub sameLength : length text ≡ length text₀
+-- where the storing loop stands besides: what is left of the text is still to be stored, from an index that is not ahead
+pub record Putting (l old text : List ℕ) (m v at i : ℕ) : Type 0 where
+  pub storing : Storing old (textOf l) text at (textFrom m v (map symbolOf (drop i l)))
   pub behind : at ≤ i
 
 pub reading-start : (l : List ℕ) (all : Bool) → all ≡ isReadable 96 0 (map symbolOf l) → Reading l all 96 0 0
 reading-start l all e = record { left = e; rememberedSmall = omega arith; pendingSmall = omega arith; inside = omega arith }
 
-pub storing-start : (l text : List ℕ) → Storing l text text 96 0 0 0
+pub putting-start : (l text : List ℕ) → Putting l text text 96 0 0 0
 unfolding textOf
-storing-start l text = record { stored = refl; count = omega arith; sameLength = refl; behind = omega arith }
+putting-start l text = record { storing = storing-all text (textOf l); behind = omega arith }
 
 module _ (l : List ℕ) (all : Bool) (m v i : ℕ) (reading : Reading l all m v i) where
   pub reading-end : length l ≤ i → eqb v 0 ≡ all
@@ -233,87 +221,19 @@ module _ (l : List ℕ) (all : Bool) (m v i : ℕ) (reading : Reading l all m v 
       unfolding textFrom
       text-here = ap (textFrom m v) (symbols-here l i h) ∙ rw (← es, adds-is, ← goes .rememberedIs, ← goes .pendingIs)
 
-      pub storing-turn : (text₀ text text′ : List ℕ) (at at′ : ℕ) → Storing l text₀ text m v at i
+      pub putting-turn : (old text text′ : List ℕ) (at at′ : ℕ) → Putting l old text m v at i
           → at′ ≡ at + length (addsAfter s m′) → text′ ≡ sets text at (addsAfter s m′)
-          → Reading l all m′ v′ (i + 1) × Storing l text₀ text′ m′ v′ at′ (i + 1)
-      storing-turn text₀ text text′ at at′ storing atIs textIs = (
+          → Reading l all m′ v′ (i + 1) × Putting l old text′ m′ v′ at′ (i + 1)
+      putting-turn old text text′ at at′ putting atIs textIs = (
         reading-turn,
         record {
-          stored = rw (atIs, textIs) (rw (text-here, sets-append) at (storing .stored));
-          count = omega (arith, rw length-append at (ap length text-here));
-          sameLength = ap length textIs ∙ length-sets text at (addsAfter s m′) ∙ storing .sameLength;
-          behind = omega (arith, adds-le s m′);
+          storing = storing-more _ _ _ _ _ (putting .storing) (addsAfter s m′) _ text-here text′ at′ textIs atIs;
+          behind = omega (arith, adds-le s m′, putting .behind);
         },
       )
 
-pub storing-end : (l text₀ text : List ℕ) (m v at i : ℕ) → Storing l text₀ text m v at i → length l ≤ i
-    → (at ≡ length (textOf l)) × (text ≡ sets text₀ 0 (textOf l))
+pub putting-end : (l old text : List ℕ) (m v at i : ℕ) → Putting l old text m v at i → length l ≤ i → length l ≤ length old
+    → (at ≡ length (textOf l)) × (text ≡ textOf l ++ drop (length (textOf l)) old)
 unfolding textFrom
-storing-end l text₀ text m v at i storing h =
-    let e = ap (textFrom m v) (symbols-end l i h) in
-    (omega (arith, ap length e), rw e at (storing .stored))
-
--- the returns of `decode`
-
-module _ (buffer l : List ℕ) where
-  -- an answer, and the buffer that is left, are as they should be
-  abbrev pub Answered : PointsAnswer → List ℕ → Type 0
-  Answered r left =
-      (pointsOutcome r ≡ decodeOutcome (length buffer) l)
-      × (left ≡ bufferAfter (decodeOutcome (length buffer) l) (textOf l) buffer)
-
-  refusal : (code : ErrorCode) (position : ℕ) (r : PointsAnswer) → r ≡ Error code position → decodeOutcome (length buffer) l ≡ refused (numberOf code) position
-      → Answered r buffer
-  unfolding pointsOutcome
-  refusal code position r e o =
-      let left = refused-leaves (decodeOutcome (length buffer) l) (textOf l) buffer (numberOf code) position o in
-      (ap pointsOutcome e ∙ left .0, left .1)
-
-  pub answer-1 : length buffer < 63 → (r : PointsAnswer) → r ≡ Error Capacity 0 → Answered r buffer
-  unfolding decodeOutcome refusedIf numberOf
-  answer-1 h r e = refusal Capacity 0 r e (simp (lt-ltb (length buffer) 63 h))
-
-  pub answer-2 : 63 ≤ length buffer → length l ≡ 0 → (r : PointsAnswer) → r ≡ Error Empty 0 → Answered r buffer
-  unfolding decodeOutcome refusedIf numberOf
-  answer-2 b h r e = refusal Empty 0 r e (simp (le-ltb _ _ b, eq-eqb _ _ h))
-
-  pub answer-3 : 63 ≤ length buffer → (length l ≡ 0 → ⊥) → 63 < length l → (r : PointsAnswer) → r ≡ Error TooLong 0 → Answered r buffer
-  unfolding decodeOutcome refusedIf numberOf
-  answer-3 b n h r e = refusal TooLong 0 r e (simp (le-ltb _ _ b, ne-eqb _ _ n, lt-ltb _ _ h))
-
-  -- the buffer has room, and the label has 1 to 63 bytes
-  module _ (sized : (63 ≤ length buffer) × (0 < length l) × (length l ≤ 63)) (bad : ℕ) (badIs : bad ≡ firstOutside l) where
-    room : ltb (length buffer) 63 ≡ false
-    room = le-ltb _ _ (sized .0)
-
-    some : eqb (length l) 0 ≡ false
-    some = ne-eqb (length l) 0 (λ e. omega arith)
-
-    short : ltb 63 (length l) ≡ false
-    short = le-ltb _ _ (sized .2)
-
-    pub answer-7 : bad < length l → (r : PointsAnswer) → r ≡ Error OutsideAlphabet bad → Answered r buffer
-    unfolding decodeOutcome refusedIf numberOf
-    answer-7 h r e = refusal OutsideAlphabet bad r e (simp (room, some, short, ← badIs, lt-ltb _ _ h))
-
-    -- no byte is outside
-    module _ (none : length l ≤ bad) (edge : Bool) (edgeIs : edge ≡ hasEdgeHyphen l) where
-      known : ltb (firstOutside l) (length l) ≡ false
-      known = le-ltb _ _ (rw badIs at none)
-
-      pub answer-5 : edge ≡ true → (r : PointsAnswer) → r ≡ Error EdgeHyphen 0 → Answered r buffer
-      unfolding decodeOutcome refusedIf numberOf
-      answer-5 h r e = refusal EdgeHyphen 0 r e (simp (room, some, short, known, sym edgeIs ∙ h))
-
-      -- and no hyphen at an edge
-      module _ (noEdge : edge ≡ false) (readable : Bool) (readableIs : readable ≡ isReadable 96 0 (map symbolOf l)) where
-        pub answer-9 : not readable ≡ true → (r : PointsAnswer) → r ≡ Error NotWellFormed 0 → Answered r buffer
-        unfolding decodeOutcome refusedIf numberOf
-        answer-9 h r e = refusal NotWellFormed 0 r e (simp (room, some, short, known, sym edgeIs ∙ noEdge, sym readableIs ∙ not-true readable h))
-
-        pub answer-done : not readable ≡ false → (count : ℕ) (left : List ℕ) → count ≡ length (textOf l) → left ≡ sets buffer 0 (textOf l)
-            → Answered (Points (record { 0 = count })) left
-        unfolding decodeOutcome refusedIf pointsOutcome bufferAfter
-        answer-done h count left countIs leftIs =
-            simp (room, some, short, known, sym edgeIs ∙ noEdge, sym readableIs ∙ not-false readable h)
-            (ap done countIs, leftIs ∙ sets-front (textOf l) buffer (omega (arith, text-fits l)))
+putting-end l old text m v at i putting h fits =
+    storing-none _ _ _ _ _ (putting .storing) (ap (textFrom m v) (symbols-end l i h)) (omega (arith, text-fits l))

@@ -1,25 +1,20 @@
--- What writing a label needs: lengths and stores of groups, items and labels, the turns of the loops, and the returns of `encode`.
+-- What writing a label needs: lengths and stores of groups, items and labels, and the turns of the loops.
 use mathlib.Core.Path.{_≡_, refl, sym, ap, _∙_}
-use mathlib.Core.Bool.{Bool, true, false}
 use mathlib.Core.List.{List, [], _∷_, _++_, map, append-assoc, map-append}
 use Prim.Native.Nat.{ℕ, zero, suc, _+_, _-_, _*_, _/_, _%_, _^_, _<_, _≤_, min}
+use native.Mathlib.Nat.{zero-add}
 use native.Mathlib.Numerals.{add-one}
 use native.Mathlib.Omega.{arith}
 use lib.Bits.{bitXor}
-use lib.Dec.{eqb, ltb}
+use lib.Dec.{eqb}
 use lib.ListN.{length, set, drop, length-append, length-map, drop-of-length-le}
 use lib.Seq.{sets, drop-cons}
-use borrow.Author.Tests.{eq-eqb, ne-eqb, lt-ltb, le-ltb}
+use borrow.Author.Tests.{eq-eqb, ne-eqb}
 use Rattle.basis.specs.Rows.{at}
-use Rattle.basis.specs.Outcome.{Outcome, done, refused, refusedIf, bufferAfter}
 use Rattle.basis.proofs.Tests.{cases, by-lt}
-use Rattle.basis.proofs.Lists.{sets-front}
-use Rattle.basis.proofs.Stores.{sets-append, sets-last}
-use Rattle.basis.proofs.Outcome.{refused-leaves, done-leaves}
-use Rattle.utf16.specs.Points.{firstNotPoint}
-use Rattle.altdude.specs.Symbols.{byteOf, hasEdgeHyphen}
+use Rattle.basis.proofs.Stores.{sets-last, Storing, storing-all, storing-more, storing-none}
+use Rattle.altdude.specs.Symbols.{byteOf}
 use Rattle.altdude.specs.Encoding.{leadingDigits, groupOf, itemOf, rememberedAfter, symbolsFrom, labelOf}
-use Rattle.altdude.specs.Answer.{encodeOutcome}
 use Rattle.altdude.proofs.Digits.{digits-step, digits-none}
 
 -- what stands before the rest does not depend on it
@@ -86,14 +81,28 @@ module _ (t : List ℕ) (m m′ i : ℕ) (inside : i < length t) (next : m′ �
   count-turn all n n′ inv e = omega (arith, length-turn)
 
   -- the item stored, and what is left to store
-  pub store-turn : (label label′ all : List ℕ) (k k′ : ℕ) → sets label k (map byteOf (symbolsFrom m (drop i t))) ≡ all
-      → k′ ≡ k + length (itemOf m (at t i) []) → label′ ≡ sets label k (map byteOf (itemOf m (at t i) []))
-      → sets label′ k′ (map byteOf (symbolsFrom m′ (drop (i + 1) t))) ≡ all
-  store-turn label label′ all k k′ inv ek el = rw (ek, el) (rw (symbols-turn, map-append, sets-append, length-map) at inv)
+  pub store-turn : (old label : List ℕ) (k : ℕ) → Storing old (labelOf t) label k (map byteOf (symbolsFrom m (drop i t)))
+      → (label′ : List ℕ) (k′ : ℕ) → k′ ≡ k + length (itemOf m (at t i) []) → label′ ≡ sets label k (map byteOf (itemOf m (at t i) []))
+      → Storing old (labelOf t) label′ k′ (map byteOf (symbolsFrom m′ (drop (i + 1) t)))
+  store-turn old label k s label′ k′ ek el =
+      storing-more _ _ _ _ _ s (map byteOf (itemOf m (at t i) [])) _ (rw (symbols-turn, map-append)) label′ k′ el (rw length-map ek)
+
+-- all symbols are counted and are to be stored
+pub count-start : (t : List ℕ) → length (labelOf t) ≡ 0 + length (symbolsFrom 96 t)
+unfolding labelOf
+count-start t = length-map (symbolsFrom 96 t) byteOf ∙ sym (zero-add (length (symbolsFrom 96 t)))
+
+pub store-start : (t label : List ℕ) → Storing label (labelOf t) label 0 (map byteOf (symbolsFrom 96 t))
+unfolding labelOf
+store-start t label = storing-all label (labelOf t)
 
 -- the item of a point has its place among all symbols
 pub item-within : (t : List ℕ) (m i : ℕ) → i < length t → (all n : ℕ) → all ≡ n + length (symbolsFrom m (drop i t)) → n + length (itemOf m (at t i) []) ≤ all
 item-within t m i inside all n inv = omega (arith, length-turn t m _ i inside refl)
+
+pub item-fits : (t : List ℕ) (m i : ℕ) → i < length t → (old label : List ℕ) (k : ℕ) → Storing old (labelOf t) label k (map byteOf (symbolsFrom m (drop i t)))
+    → k + length (itemOf m (at t i) []) ≤ length (labelOf t)
+item-fits t m i inside old label k s = item-within t m i inside _ k (sym (s .count) ∙ rw length-map)
 
 -- at the end nothing is left
 module _ (t : List ℕ) (m i : ℕ) (past : length t ≤ i) where
@@ -104,8 +113,9 @@ module _ (t : List ℕ) (m i : ℕ) (past : length t ≤ i) where
   pub count-end : (all n : ℕ) → all ≡ n + length (symbolsFrom m (drop i t)) → n ≡ all
   count-end all n inv = omega (arith, ap length symbols-end)
 
-  pub store-end : (label all : List ℕ) (k : ℕ) → sets label k (map byteOf (symbolsFrom m (drop i t))) ≡ all → label ≡ all
-  store-end label all k inv = rw symbols-end at inv
+  pub store-end : (old label : List ℕ) (k : ℕ) → Storing old (labelOf t) label k (map byteOf (symbolsFrom m (drop i t))) → length (labelOf t) ≤ length old
+      → (k ≡ length (labelOf t)) × (label ≡ labelOf t ++ drop (length (labelOf t)) old)
+  store-end old label k s fits = storing-none _ _ _ _ _ s (rw symbols-end) fits
 
 -- the last symbol is stored first, then those before it
 put-last : (label : List ℕ) (k j r d : ℕ) (a whole : List ℕ) → whole ≡ a ++ (d ∷ []) → r ≡ byteOf d → j ≡ k + length a
@@ -135,56 +145,10 @@ module _ (m p : ℕ) (hyphen : p ≡ 45) where
   unfolding byteOf
   put-hyphen label k = rw (item-hyphen m p hyphen)
 
--- the returns of `encode`: the answer and the buffer, from the tests passed so far
-module _ (label t : List ℕ) where
-  abbrev Answered : Outcome → List ℕ → Type 0
-  Answered answer now =
-      (answer ≡ encodeOutcome (length label) t) × (now ≡ bufferAfter (encodeOutcome (length label) t) (labelOf t) label)
+-- the length of a label, as it is counted up to 64
+module _ (n long : ℕ) (count : n ≡ min 64 long) where
+  pub label-long : 63 < n → 63 < long
+  label-long h = omega arith
 
-  refuses : (answer : Outcome) (number position : ℕ) → answer ≡ refused number position → encodeOutcome (length label) t ≡ refused number position → Answered answer label
-  refuses answer number position a o =
-      let r = refused-leaves (encodeOutcome (length label) t) (labelOf t) label number position o in
-      (a ∙ r .0, r .1)
-
-  pub encode-1 : length label < 63 → (answer : Outcome) → answer ≡ refused 1 0 → Answered answer label
-  unfolding encodeOutcome refusedIf
-  encode-1 h answer e = refuses answer 1 0 e (simp (lt-ltb (length label) 63 h))
-
-  module _ (fits : 63 ≤ length label) where
-    pub encode-2 : length t ≡ 0 → (answer : Outcome) → answer ≡ refused 2 0 → Answered answer label
-    unfolding encodeOutcome refusedIf
-    encode-2 h answer e = refuses answer 2 0 e (simp (le-ltb (length label) 63 fits, eq-eqb (length t) 0 h))
-
-    module _ (some : length t ≡ 0 → ⊥) (k : ℕ) (first : k ≡ firstNotPoint t) where
-      pub encode-4 : k < length t → (answer : Outcome) → answer ≡ refused 4 k → Answered answer label
-      unfolding encodeOutcome refusedIf
-      encode-4 h answer e =
-          refuses answer 4 k e
-          (rw (← first) (simp (le-ltb (length label) 63 fits, ne-eqb (length t) 0 some, lt-ltb k (length t) h)))
-
-      module _ (points : length t ≤ k) (edge : Bool) (edges : edge ≡ hasEdgeHyphen t) where
-        pub encode-5 : edge ≡ true → (answer : Outcome) → answer ≡ refused 5 0 → Answered answer label
-        unfolding encodeOutcome refusedIf
-        encode-5 h answer e =
-            refuses answer 5 0 e
-            (rw (← first, ← edges) (simp (le-ltb (length label) 63 fits, ne-eqb (length t) 0 some, le-ltb k (length t) points, h)))
-
-        module _ (inner : edge ≡ false) (n : ℕ) (count : n ≡ min 64 (length (symbolsFrom 96 t))) where
-          label-length : length (labelOf t) ≡ length (symbolsFrom 96 t)
-          unfolding labelOf
-          label-length = length-map (symbolsFrom 96 t) byteOf
-
-          last-test : encodeOutcome (length label) t ≡ refusedIf (ltb 63 (length (labelOf t))) 3 0 (done (length (labelOf t)))
-          unfolding encodeOutcome refusedIf
-          last-test = rw (← first, ← edges) (simp (le-ltb (length label) 63 fits, ne-eqb (length t) 0 some, le-ltb k (length t) points, inner))
-
-          pub encode-3 : 63 < n → (answer : Outcome) → answer ≡ refused 3 0 → Answered answer label
-          unfolding refusedIf
-          encode-3 h answer e = refuses answer 3 0 e (last-test ∙ rw (lt-ltb 63 (length (labelOf t)) (omega (arith, label-length))))
-
-          pub encode-done : n ≤ 63 → (r : ℕ) (now : List ℕ) → r ≡ length (symbolsFrom 96 t) → now ≡ sets label 0 (map byteOf (symbolsFrom 96 t)) → Answered (done r) now
-          unfolding refusedIf labelOf
-          encode-done h r now er en =
-              done-leaves (encodeOutcome (length label) t) (labelOf t) label now r
-              (last-test ∙ rw (le-ltb 63 (length (labelOf t)) (omega (arith, label-length))) (ap done (label-length ∙ sym er)))
-              (en ∙ sets-front (labelOf t) label (omega (arith, label-length)) ∙ ap (λ (n : ℕ). labelOf t ++ drop n label) (label-length ∙ sym er))
+  pub label-short : n ≤ 63 → long ≤ 63
+  label-short h = omega arith

@@ -2,10 +2,10 @@
 use Prim.Native.Nat.{ℕ}
 use mathlib.Core.Bool.{not}
 use mathlib.Core.List.{List, map}
-use lib.Dec.{eqb, ltb}
+use lib.Dec.{ltb}
 use lib.ListN.{length}
 use Rattle.basis.specs.Outcome.{Outcome, done, refusedIf}
-use Rattle.utf16.specs.Points.{firstNotPoint}
+use Rattle.labels.specs.Tests.{textTests, labelTests}
 use Rattle.altdude.specs.Symbols.{symbolOf, firstOutside, hasEdgeHyphen}
 use Rattle.altdude.specs.Encoding.{labelOf}
 use Rattle.altdude.specs.Decoding.{isReadable, textOf}
@@ -13,20 +13,16 @@ use Rattle.altdude.specs.Decoding.{isReadable, textOf}
 -- encoding a text into a buffer of so many bytes: 1, 2, 4, 5, 3
 unfoldable pub encodeOutcome : ℕ → List ℕ → Outcome
 encodeOutcome capacity t =
-    refusedIf (ltb capacity 63) 1 0
-    (refusedIf (eqb (length t) 0) 2 0
-    (refusedIf (ltb (firstNotPoint t) (length t)) 4 (firstNotPoint t)
+    textTests capacity t
     (refusedIf (hasEdgeHyphen t) 5 0
     (refusedIf (ltb 63 (length (labelOf t))) 3 0
-    (done (length (labelOf t)))))))
+    (done (length (labelOf t)))))
 
 -- decoding a label into a buffer of so many points: 1, 2, 3, 7, 5, 9
 unfoldable pub decodeOutcome : ℕ → List ℕ → Outcome
 decodeOutcome capacity l =
-    refusedIf (ltb capacity 63) 1 0
-    (refusedIf (eqb (length l) 0) 2 0
-    (refusedIf (ltb 63 (length l)) 3 0
+    labelTests capacity (length l)
     (refusedIf (ltb (firstOutside l) (length l)) 7 (firstOutside l)
     (refusedIf (hasEdgeHyphen l) 5 0
     (refusedIf (not (isReadable 96 0 (map symbolOf l))) 9 0
-    (done (length (textOf l))))))))
+    (done (length (textOf l))))))

@@ -3,9 +3,9 @@ use crate::symbols;
 use utf16::points;
 ghost use mathlib.Core.Path.{_≡_};
 ghost use mathlib.Core.Bool.{true};
-ghost use mathlib.Core.List.{map};
+ghost use mathlib.Core.List.{_++_, map};
 ghost use Prim.Native.Nat.{_+_, _^_, _≤_, _<_};
-ghost use lib.ListN.{length};
+ghost use lib.ListN.{length, drop};
 ghost use lib.Seq.{sets};
 ghost use Rattle.altdude.specs.Symbols.{symbolOf};
 ghost use Rattle.altdude.specs.Decoding.{isReadable, textOf};
@@ -114,7 +114,7 @@ pub(crate) fn put_text(label: &[u8], text: &mut [u32]) -> usize
     requires { ⌜ isReadable 96 0 (map symbolOf (now label)) ≡ true ⌝ }
     requires { ⌜ length (now label) ≤ length (now text) ⌝ }
     ensures { λ r. ⌜ r ≡ length (textOf (now (label .entry))) ⌝ }
-    ensures { λ _. ⌜ now (text .exit) ≡ sets (now (text .entry)) 0 (textOf (now (label .entry))) ⌝ }
+    ensures { λ _. ⌜ now (text .exit) ≡ textOf (now (label .entry)) ++ drop (length (textOf (now (label .entry)))) (now (text .entry)) ⌝ }
 {
     let mut remembered = 96;
     let mut pending = 0;

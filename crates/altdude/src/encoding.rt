@@ -1,12 +1,12 @@
 // Writing a text as a label.
 use crate::symbols;
 ghost use mathlib.Core.Path.{_≡_};
-ghost use mathlib.Core.List.{[], map};
+ghost use mathlib.Core.List.{[], _++_, map};
 ghost use Prim.Native.Nat.{_+_, _≤_, min};
-ghost use lib.ListN.{length};
+ghost use lib.ListN.{length, drop};
 ghost use lib.Seq.{sets};
 ghost use Rattle.altdude.specs.Symbols.{byteOf};
-ghost use Rattle.altdude.specs.Encoding.{groupOf, itemOf, rememberedAfter, symbolsFrom};
+ghost use Rattle.altdude.specs.Encoding.{groupOf, itemOf, rememberedAfter, labelOf};
 
 // How many symbols the group of x has.
 fn group_length(x: u32) -> usize
@@ -41,7 +41,7 @@ fn remembered_after(remembered: u32, point: u32) -> u32
 
 // How many bytes the label of a text has, or 64 where it has more than 63.
 pub(crate) fn label_length(text: &[u32]) -> usize
-    ensures { λ r. ⌜ r ≡ min 64 (length (symbolsFrom 96 (now (text .entry)))) ⌝ }
+    ensures { λ r. ⌜ r ≡ min 64 (length (labelOf (now (text .entry)))) ⌝ }
 {
     let mut n = 0;
     let mut remembered = 96;
@@ -91,9 +91,9 @@ fn put_item(remembered: u32, point: u32, label: &mut [u8], at: usize) -> usize
 
 // Stores the label of a text, and answers its length.
 pub(crate) fn put_label(text: &[u32], label: &mut [u8]) -> usize
-    requires { ⌜ length (symbolsFrom 96 (now text)) ≤ length (now label) ⌝ }
-    ensures { λ r. ⌜ r ≡ length (symbolsFrom 96 (now (text .entry))) ⌝ }
-    ensures { λ _. ⌜ now (label .exit) ≡ sets (now (label .entry)) 0 (map byteOf (symbolsFrom 96 (now (text .entry)))) ⌝ }
+    requires { ⌜ length (labelOf (now text)) ≤ length (now label) ⌝ }
+    ensures { λ r. ⌜ r ≡ length (labelOf (now (text .entry))) ⌝ }
+    ensures { λ _. ⌜ now (label .exit) ≡ labelOf (now (text .entry)) ++ drop (length (labelOf (now (text .entry)))) (now (label .entry)) ⌝ }
 {
     let mut at = 0;
     let mut remembered = 96;

@@ -22,9 +22,10 @@ use Rattle.utf16.proofs.Refusals.{points-text}
 use Rattle.altdude.specs.Symbols.{symbolOf, byteOf, isCharacter, hasEdgeHyphen, firstOutside}
 use Rattle.altdude.specs.Encoding.{symbolsFrom, labelOf}
 use Rattle.altdude.specs.Decoding.{isReadable, textFrom, textOf}
+use Rattle.labels.specs.Causes.{Empty, TooLong}
 use Rattle.altdude_facts.specs.WellFormed.{WellFormed}
 use Rattle.altdude.specs.Answer.{decodeOutcome}
-use Rattle.altdude_facts.specs.Causes.{Empty, EdgeHyphen, TooLong, OutsideAt, NotWellFormed, textCauses, labelCauses, scheme}
+use Rattle.altdude_facts.specs.Causes.{EdgeHyphen, OutsideAt, NotWellFormed, textCauses, labelCauses, scheme}
 use Rattle.altdude.proofs.Digits.{digits-none}
 use Rattle.altdude_facts.proofs.Bytes.{symbol-character, symbols-small, bytes-symbols, symbols-bytes}
 use Rattle.altdude_facts.proofs.RoundTrip.{Readable, readable-is, readable-symbols, written-readable, written-text, read-symbols, read-text}

@@ -5,13 +5,13 @@ use mathlib.Core.Bool.{true, false, not}
 use mathlib.Core.Logic.{_↔_, inl, inr}
 use mathlib.Core.List.{List, _∷_, map}
 use lib.ListN.{length}
-use borrow.Author.Tests.{ltb-false, eqb-false, not-true}
+use borrow.Author.Tests.{not-true}
 use native.Mathlib.Omega.{arith}
 use Rattle.basis.specs.Rows.{at}
 use Rattle.basis.specs.Causes.{whole, Settles}
-use Rattle.basis.proofs.Tests.{cases, true-not-false, ltb-iff, eqb-iff, at-each, none-iff}
+use Rattle.basis.proofs.Tests.{cases, true-not-false, ltb-iff, at-each, none-iff}
 use Rattle.basis.proofs.Causes.{settle-whole, settle-first, settle-done}
-use Rattle.utf16.specs.Points.{isPoint, firstNotPoint}
+use Rattle.labels.proofs.FirstTests.{settle-text, settle-label}
 use Rattle.altdude.specs.Symbols.{symbolOf, isCharacter, hasEdgeHyphen, firstOutside}
 use Rattle.altdude.specs.Encoding.{labelOf}
 use Rattle.altdude.specs.Decoding.{isReadable, textOf}
@@ -45,22 +45,18 @@ module _ (l : List ℕ) (some : length l ≡ 0 → ⊥) (short : length l ≤ 63
   )
 
 pub encode-settled : (capacity : ℕ) (t : List ℕ) → Settles (whole 1 (capacity < 63) ∷ textCauses t) (length (labelOf t)) (encodeOutcome capacity t)
-unfolding encodeOutcome firstNotPoint
+unfolding encodeOutcome
 encode-settled capacity t =
-    settle-whole _ 1 (ltb-iff capacity 63)
-    (λ _. settle-whole _ 2 (eqb-iff (length t) 0)
-    (λ _. settle-first (length t) (λ k. not (isPoint (at t k))) 4
-    (λ _. settle-whole _ 5 (edges-iff t)
+    settle-text capacity t
+    (settle-whole _ 5 (edges-iff t)
     (λ _. settle-whole _ 3 (ltb-iff 63 (length (labelOf t)))
-    (λ _. settle-done (length (labelOf t)))))))
+    (λ _. settle-done (length (labelOf t)))))
 
 pub decode-settled : (capacity : ℕ) (l : List ℕ) → Settles (whole 1 (capacity < 63) ∷ labelCauses l) (length (textOf l)) (decodeOutcome capacity l)
 unfolding decodeOutcome firstOutside
 decode-settled capacity l =
-    settle-whole _ 1 (ltb-iff capacity 63)
-    (λ _. settle-whole _ 2 (eqb-iff (length l) 0)
-    (λ some. settle-whole _ 3 (ltb-iff 63 (length l))
-    (λ short. settle-first (length l) (λ k. not (isCharacter (at l k))) 7
+    settle-label capacity l
+    (λ some short. settle-first (length l) (λ k. not (isCharacter (at l k))) 7
     (λ characters. settle-whole _ 5 (edges-iff l)
-    (λ edges. settle-whole _ 9 (unreadable-iff l (eqb-false _ _ some) (ltb-false _ _ short) characters edges)
-    (λ _. settle-done (length (textOf l))))))))
+    (λ edges. settle-whole _ 9 (unreadable-iff l some short characters edges)
+    (λ _. settle-done (length (textOf l))))))

@@ -1,5 +1,5 @@
 -- The causes of refusal, each by itself, and AltDUDE as a scheme.
-use Prim.Native.Nat.{ℕ, _-_, _<_}
+use Prim.Native.Nat.{ℕ, _-_}
 use mathlib.Core.Path.{_≡_}
 use mathlib.Core.Bool.{not}
 use mathlib.Core.Logic.{_⊎_}
@@ -9,24 +9,17 @@ use Rattle.basis.specs.Tests.{IsFirst}
 use Rattle.basis.specs.Rows.{at}
 use Rattle.basis.specs.Causes.{Cause, whole, placed}
 use Rattle.basis.specs.Scheme.{Scheme}
-use Rattle.utf16.specs.Causes.{NotAPointAt}
+use Rattle.labels.specs.Causes.{TooLong}
+use Rattle.labels.specs.Causes as labels
 use Rattle.altdude.specs.Symbols.{isCharacter}
 use Rattle.altdude.specs.Encoding.{labelOf}
 use Rattle.altdude.specs.Decoding.{textOf}
 use Rattle.altdude_facts.specs.WellFormed.{WellFormed}
 use Rattle.altdude.specs.Answer.{encodeOutcome, decodeOutcome}
 
--- 2: empty
-abbrev pub Empty : List ℕ → Type 0
-Empty xs = length xs ≡ 0
-
 -- 5: begins or ends with a hyphen
 abbrev pub EdgeHyphen : List ℕ → Type 0
 EdgeHyphen xs = (at xs 0 ≡ 45) ⊎ (at xs (length xs - 1) ≡ 45)
-
--- 3: over 63 bytes
-abbrev pub TooLong : List ℕ → Type 0
-TooLong l = 63 < length l
 
 -- 7: a byte that is neither a hyphen nor one of the 32, the first at index i
 abbrev pub OutsideAt : List ℕ → ℕ → Type 0
@@ -36,14 +29,13 @@ OutsideAt l i = IsFirst (length l) (λ k. not (isCharacter (at l k))) i
 abbrev pub NotWellFormed : List ℕ → Type 0
 NotWellFormed l = WellFormed l → ⊥
 
--- against writing a text, in order
+-- against writing a text, in order: 2, 4, 5, 3
 abbrev pub textCauses : List ℕ → List Cause
-textCauses t = whole 2 (Empty t) ∷ placed 4 (NotAPointAt t) ∷ whole 5 (EdgeHyphen t) ∷ whole 3 (TooLong (labelOf t)) ∷ []
+textCauses t = labels.textCauses t (whole 5 (EdgeHyphen t) ∷ whole 3 (TooLong (labelOf t)) ∷ [])
 
--- against reading a label, in order
+-- against reading a label, in order: 2, 3, 7, 5, 9
 abbrev pub labelCauses : List ℕ → List Cause
-labelCauses l =
-    whole 2 (Empty l) ∷ whole 3 (TooLong l) ∷ placed 7 (OutsideAt l) ∷ whole 5 (EdgeHyphen l) ∷ whole 9 (NotWellFormed l) ∷ []
+labelCauses l = labels.labelCauses l (placed 7 (OutsideAt l) ∷ whole 5 (EdgeHyphen l) ∷ whole 9 (NotWellFormed l) ∷ [])
 
 -- AltDUDE as a scheme, of which the demands speak
 abbrev pub scheme : Scheme

@@ -1,9 +1,9 @@
 -- Laws on lent parts of a buffer: what the callee was lent, and what the whole holds after it.
-use Prim.Native.Nat.{ℕ, _-_, _≤_}
+use Prim.Native.Nat.{ℕ, _+_, _-_, _≤_}
 use mathlib.Core.Path.{_≡_, sym, ap, ap₂, _∙_}
-use mathlib.Core.List.{List, _++_, append-nil}
+use mathlib.Core.List.{List, _++_, append-nil, append-assoc}
 use lib.ListN.{length, take, drop, length-append, length-drop, drop-of-length-le}
-use lib.Seq.{take-all, take-at, drop-at}
+use lib.Seq.{take-all, take-at, drop-at, drop-drop}
 use native.Mathlib.Omega.{arith}
 
 -- the part from index k on, as it is lent and as it is put back
@@ -24,6 +24,15 @@ module _ (k : ℕ) (front rest now : List ℕ) (long : length front ≡ k) (is :
   pub lent-back : (part : List ℕ) (made : List ℕ → List ℕ) → part ≡ made (take (length now - k) (drop k now))
       → take k now ++ (part ++ drop (length now - k) (drop k now)) ≡ front ++ made rest
   lent-back part made e = part-back k now part ∙ ap₂ _++_ (ap (take k) is ∙ take-at front rest k long) (e ∙ ap made lent-is)
+
+-- a buffer whose front was stored first, and whose rest was lent to be filled from its front
+pub lent-filled : (k n : ℕ) (front values old now : List ℕ) → length front ≡ k → now ≡ front ++ drop k old
+    → (part : List ℕ) → part ≡ values ++ drop n (take (length now - k) (drop k now))
+    → take k now ++ (part ++ drop (length now - k) (drop k now)) ≡ (front ++ values) ++ drop (k + n) old
+lent-filled k n front values old now long is part e =
+    lent-back k front (drop k old) now long is part (λ (l : List ℕ). values ++ drop n l) e
+    ∙ ap (λ (l : List ℕ). front ++ (values ++ l)) (drop-drop n k old)
+    ∙ sym (append-assoc front values (drop (k + n) old))
 
 -- a buffer whose first n elements, the values in front, are lent
 module _ (n : ℕ) (front rest now : List ℕ) (count : n ≡ length front) (is : now ≡ front ++ rest) where

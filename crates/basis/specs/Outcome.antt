@@ -30,6 +30,11 @@ pub data Outcome : Type 0 where
   done : ℕ → Outcome
   refused : ℕ → ℕ → Outcome
 
+-- the count of an outcome; a refusal's is 0
+unfoldable pub countOf : Outcome → ℕ
+countOf (done count) = count
+countOf (refused number position) = 0
+
 -- the count of an answer in bytes, or its error's number and position
 unfoldable pub bytesOutcome : BytesAnswer → Outcome
 bytesOutcome (Bytes count) = done (count .0)

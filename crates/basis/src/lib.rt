@@ -1,7 +1,7 @@
 // The numbered errors that every entry answers with, and an answer in bytes. The shared definitions stand in specs/, the laws
 // on them in proofs/.
 ghost use mathlib.Core.Path.{_≡_};
-ghost use Rattle.basis.specs.Outcome.{numberOf};
+ghost use Rattle.basis.specs.Outcome.{numberOf, countOf, bytesOutcome};
 
 // The causes of refusal of the scope paper, in its order; `numberOf` of specs/Outcome.antt gives each its number.
 pub enum ErrorCode {
@@ -35,6 +35,19 @@ pub fn bytes_error(code: ErrorCode, position: usize) -> BytesAnswer
     ensures { λ r. ⌜ r ≡ BytesAnswer.Error code position ⌝ }
 {
     BytesAnswer::Error { code, position }
+}
+
+// How many bytes an answer says were written; an error has written none.
+pub fn bytes_written(answer: BytesAnswer) -> usize
+    ensures { λ r. ⌜ r ≡ countOf (bytesOutcome answer) ⌝ }
+{
+    match answer {
+        BytesAnswer::Bytes(count) => count.0,
+        BytesAnswer::Error {
+            code: _,
+            position: _,
+        } => 0,
+    }
 }
 
 // The number of an error.

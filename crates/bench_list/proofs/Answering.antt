@@ -1,18 +1,19 @@
 -- Answering the lines of a chunk one by one: the start, a line that ended, and the end of the chunk.
-use Prim.Native.Nat.{ℕ, _+_, _*_, _-_, _≤_, _<_}
+use Prim.Native.Nat.{ℕ, _+_, _-_, _≤_, _<_}
 use mathlib.Core.Path.{_≡_, refl, sym, ap, _∙_}
 use mathlib.Core.List.{List, [], _∷_, _++_, append-nil, append-assoc}
-use lib.ListN.{length, take, drop, length-append, length-take, length-drop, drop-of-length-le}
+use lib.ListN.{length, take, drop, length-take, length-drop, drop-of-length-le}
 use lib.Seq.{drop-drop, length-take-le}
 use native.Mathlib.Omega.{arith}
-use Rattle.basis.proofs.Parts.{lent-back, front-is, front-fits, front-long}
+use Rattle.basis.proofs.Parts.{front-is, front-fits, front-long}
 use Rattle.lines.specs.Step.{lineEnd, heldAfter, inFront, stepAnswer}
 use Rattle.lines.specs.Run.{endedIn, heldIn}
 use Rattle.lines.specs.declared.LineStep.{LineStep}
 use Rattle.lines.specs.declared.LineStep.the-variants.{Ended, More}
-use Rattle.lines.proofs.Stepping.{step-ended, step-more, answers-ended, answers-more, held-few}
-use Rattle.report.proofs.Writes.{front-more}
-use Rattle.bench_list.specs.Listing.{benchLine, benchLines, lineRoom}
+use Rattle.lines.proofs.Stepping.{step-ended, step-more, answers-more}
+use Rattle.lines.proofs.Taken as taken
+use Rattle.report.proofs.Filling.{Filling, filling-none, filling-more}
+use Rattle.bench_list.specs.Listing.{benchLine, benchLines}
 use Rattle.bench_list.specs.Answered.{Answered}
 use Rattle.bench_list.proofs.Widths.{line-fits}
 
@@ -31,12 +32,9 @@ pub record Answering (limit : ℕ) (before chunk old out : List ℕ) (at : ℕ) 
   pub answered : List (List ℕ)
   pub ended : endedIn limit before chunk ≡ answered ++ endedIn limit (take held line) (drop from chunk)
   pub holds : heldIn limit before chunk ≡ heldIn limit (take held line) (drop from chunk)
-  pub count : at ≡ length (benchLines answered)
-  pub stands : out ≡ inFront (benchLines answered) old
+  pub filling : Filling (length chunk) old (benchLines answered) out at from
   pub long : length line ≡ limit
   pub inside : held ≤ limit
-  pub within : from ≤ length chunk
-  pub room : at ≤ lineRoom * from
 
 pub answering-start : (chunk old line : List ℕ) (held : ℕ) → held ≤ length line → Answering (length line) (take held line) chunk old old 0 line held 0
 unfolding benchLines
@@ -44,12 +42,9 @@ answering-start chunk old line held h = record {
   answered = [];
   ended = refl;
   holds = refl;
-  count = refl;
-  stands = refl;
+  filling = filling-none (length chunk) old;
   long = refl;
   inside = h;
-  within = omega arith;
-  room = omega arith;
 }
 
 module _ {limit : ℕ} {before chunk old out : List ℕ} {at : ℕ} {line : List ℕ} {held from : ℕ} (a : Answering limit before chunk old out at line held from) where
@@ -59,8 +54,8 @@ module _ {limit : ℕ} {before chunk old out : List ℕ} {at : ℕ} {line : List
   finish none kept now n k c t =
       let all : endedIn limit before chunk ≡ a .answered = a .ended ∙ ap (λ (ls : List (List ℕ)). a .answered ++ ls) none ∙ append-nil (a .answered) in
       record {
-        count = rw all (a .count);
-        stands = rw all (a .stands);
+        count = rw all (a .filling .count);
+        stands = rw all (a .filling .stands);
         held-count = rw (a .holds, k) c;
         holds = rw (a .holds, k) t;
       }
@@ -72,18 +67,6 @@ module _ {limit : ℕ} {before chunk old out : List ℕ} {at : ℕ} {line : List
       let none : drop from chunk ≡ [] = drop-of-length-le chunk h in
       finish (rw none) (take held line) line held (rw none) (sym (length-take-le held line (omega (arith, a .long, a .inside)))) refl
 
-  -- the output has room for the answers of all lines that may end in the chunk
-  module _ (enough : lineRoom * length chunk ≤ length old) where
-    pub out-long : length out ≡ length old
-    out-long =
-        omega (arith, ap length (a .stands), length-append (benchLines (a .answered)) (drop (length (benchLines (a .answered))) old), length-drop (length (benchLines (a .answered))) old, a .count, a .room, a .within)
-
-    pub at-fits : at ≤ length out
-    at-fits = omega (arith, out-long, a .room, a .within)
-
-    pub room-left : from < length chunk → lineRoom ≤ length (take (length out - at) (drop at out))
-    room-left h = omega (arith, out-long, a .room, length-take (length out - at) (drop at out), length-drop at out)
-
   -- what the step holds
   abbrev holding : List ℕ
   holding = heldAfter (length line) (take held line) (drop from chunk)
@@ -93,7 +76,7 @@ module _ {limit : ℕ} {before chunk old out : List ℕ} {at : ℕ} {line : List
 
   module _ (now : List ℕ) (is : now ≡ inFront holding line) where
     pub line-kept : length now ≡ limit
-    line-kept = omega (arith, ap length is, length-append holding (drop (length holding) line), length-drop (length holding) line, held-few (length line) (take held line) (drop from chunk), a .long)
+    line-kept = taken.line-kept chunk line held from now is ∙ a .long
 
     -- the chunk ended before the line
     pub answering-rest : (answer : LineStep) (n : ℕ) → answer ≡ More n → answer ≡ stepAnswer from (drop from chunk) (length holding) → Answered limit before chunk old out at now n
@@ -105,19 +88,10 @@ module _ {limit : ℕ} {before chunk old out : List ℕ} {at : ℕ} {line : List
     -- the line ended
     module _ (answer : LineStep) (next n : ℕ) (g : answer ≡ Ended next n) (e : answer ≡ stepAnswer from (drop from chunk) (length holding)) where
       step : (lineEnd (drop from chunk) < length (drop from chunk)) × (next ≡ from + lineEnd (drop from chunk) + 1) × (n ≡ length holding)
-      step = answers-ended from (drop from chunk) (length holding) next n (sym g ∙ e)
-
-      pub later : from < next
-      later = omega (arith, step .1)
+      step = taken.ended chunk line held from now is answer e next n g
 
       line-is : take n now ≡ holding
       line-is = front-is n holding _ now (step .2) is
-
-      pub line-fits-in : n ≤ length now
-      line-fits-in = front-fits n holding _ now (step .2) is
-
-      pub line-long : n ≡ length (take n now)
-      line-long = front-long n holding _ now (step .2) is
 
       -- and its answer was put behind the others
       pub answering-more : (part : List ℕ) → part ≡ inFront (benchLine (take n now)) (take (length out - at) (drop at out)) → (put : ℕ) → put ≡ length (benchLine (take n now))
@@ -133,14 +107,11 @@ module _ {limit : ℕ} {before chunk old out : List ℕ} {at : ℕ} {line : List
             ended = a .ended ∙ ap (λ (ls : List (List ℕ)). a .answered ++ ls) (rw (sym (a .long)) (t .0 ∙ ap (λ (l : List ℕ). holding ∷ endedIn (length line) [] l) left))
                 ∙ sym (append-assoc (a .answered) (holding ∷ []) (endedIn limit [] (drop next chunk)));
             holds = a .holds ∙ rw (sym (a .long)) (t .1 ∙ ap (heldIn (length line) []) left);
-            count = rw more (omega (arith, length-append (benchLines (a .answered)) (benchLine (take n now)), a .count, c));
-            stands = rw more
-                (lent-back at (benchLines (a .answered)) _ out (sym (a .count)) (a .stands) part (inFront (benchLine (take n now))) p
-                ∙ front-more (benchLines (a .answered)) (benchLine (take n now)) old);
+            filling = rw more
+                (filling-more (a .filling) (benchLine (take n now)) part p put c (line-fits (take n now)) next (omega (arith, step .1))
+                (omega (arith, step .0, step .1, length-drop from chunk)));
             long = line-kept;
             inside = omega arith;
-            within = omega (arith, step .0, step .1, length-drop from chunk);
-            room = omega (arith, c, line-fits (take n now), step .1, a .room);
           }
 
 -- what stands in front after a chunk

@@ -1,13 +1,12 @@
 -- However the input is cut into chunks, the run prints the answers of its lines.
-use Prim.Native.Nat.{ℕ, _+_, _<_}
+use Prim.Native.Nat.{ℕ, _<_}
 use mathlib.Core.Path.{_≡_, refl, sym, ap, ap₂, _∙_}
 use mathlib.Core.List.{List, [], _∷_, _++_, map, flatten, append-assoc}
 use lib.ListN.{length, take}
 use lib.Seq.{take-all, length-take-le}
-use borrow.Author.Tests.{lt-ltb, ne-eqb}
 use native.Mathlib.Omega.{arith}
-use Rattle.basis.specs.Outcome.{refusedIf}
 use Rattle.basis.proofs.Tests.{by-lt}
+use Rattle.labels.proofs.FirstTests.{label-long}
 use Rattle.scheme.specs.Coding.{decodeOutcome}
 use Rattle.lace.specs.Answer as lace
 use Rattle.report.specs.Lines.{refusedLine}
@@ -19,8 +18,8 @@ use Rattle.bench_list.proofs.Answering.{lines-append}
 
 -- a line over 63 bytes is refused 3
 pub long-line : (line : List ℕ) → 63 < length line → benchLine line ≡ refusedLine 3
-unfolding benchLine lineFor decodeOutcome lace.decodeOutcome refusedIf
-long-line line h = rw (ne-eqb (length line) 0 (λ e. omega arith), lt-ltb 63 (length line) h)
+unfolding benchLine lineFor decodeOutcome lace.decodeOutcome
+long-line line h = rw (label-long 63 (length line) _ (omega arith) h)
 
 -- so is what is held of it
 pub held-line : (line : List ℕ) → benchLine (take heldRoom line) ≡ benchLine line

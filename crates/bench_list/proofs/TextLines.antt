@@ -5,19 +5,16 @@ use mathlib.Core.List.{List}
 use lib.ListN.{length, take}
 use native.Mathlib.Omega.{arith}
 use Rattle.basis.specs.Outcome.{Outcome, done, refused, bufferAfter}
-use Rattle.basis.proofs.Outcome.{done-not-refused}
+use Rattle.basis.proofs.Outcome.{values-fit, values-are, done-not-refused}
 use Rattle.utf16.specs.Units.{toPoints, firstUnpaired}
 use Rattle.utf16.specs.Answer.{toPointsOutcome}
 use Rattle.utf16.proofs.Refusals.{all-done}
 use Rattle.wire.specs.Bytes.{toUnits}
 use Rattle.wire.specs.Answer.{toUnitsOutcome}
-use Rattle.firmware.specs.Answer.{countOf, pointsOf}
-use Rattle.firmware.proofs.Steps.{values-fit, values-are}
+use Rattle.firmware.specs.Answer.{pointsOf}
 use Rattle.firmware.proofs.WriteLaws.{never-refused, units-count, units-few}
 use Rattle.report.specs.Lines.{pointsLine}
 use Rattle.report.specs.Answer.{lineOutcome}
-use Rattle.report.proofs.LineLaws as report
-use Rattle.lines.specs.Step.{inFront}
 use Rattle.bench_list.specs.TextBytes.{TextBytes}
 
 -- units without an unpaired surrogate are points
@@ -53,12 +50,3 @@ pub same-line : (points text out : List ℕ) → points ≡ text → (answer : O
     → now ≡ bufferAfter (lineOutcome (pointsLine points) (length out)) (pointsLine points) out
     → (answer ≡ lineOutcome (pointsLine text) (length out)) × (now ≡ bufferAfter (lineOutcome (pointsLine text) (length out)) (pointsLine text) out)
 same-line points text out e answer now a b = (rw e at a, rw e at b)
-
--- a line that has room is written whole
-pub line-written : (line whole out : List ℕ) → line ≡ whole → length whole ≤ length out → (answer : Outcome) (now : List ℕ) (n : ℕ)
-    → answer ≡ lineOutcome line (length out) → now ≡ bufferAfter (lineOutcome line (length out)) line out → n ≡ countOf answer
-    → (n ≡ length whole) × (now ≡ inFront whole out)
-unfolding countOf
-line-written line whole out e h answer now n a b c =
-    let w = report.line-written whole out h answer now (rw e at a) (rw e at b) in
-    (c ∙ ap countOf (w .0), w .1)

@@ -1,12 +1,13 @@
 -- How long the lines are: what is printed for a line has room in what is lent for it.
 use Prim.Native.Nat.{ℕ, _≤_, _<_}
 use mathlib.Core.Path.{_≡_, refl}
-use mathlib.Core.Bool.{Bool, true, false}
+use mathlib.Core.Bool.{Bool}
 use mathlib.Core.List.{List}
 use lib.ListN.{length}
 use native.Mathlib.Omega.{arith}
 use Rattle.basis.specs.Outcome.{Outcome, done, refused, refusedIf}
-use Rattle.basis.proofs.Outcome.{done-not-refused}
+use Rattle.basis.proofs.Outcome.{by-test, done-not-refused}
+use Rattle.labels.specs.Tests.{labelTests}
 use Rattle.lace.specs.Answer as lace
 use Rattle.scheme.specs.Coding.{decodeOutcome, textOf}
 use Rattle.scheme.specs.declared.Scheme.the-variants.{Lace}
@@ -16,7 +17,8 @@ use Rattle.report.specs.Lines.{refusedLine}
 use Rattle.report.proofs.DigitLaws.{digits-length, count-few}
 use Rattle.report.proofs.LineLaws.{number-length, refused-length}
 use Rattle.report.proofs.Widths.{points-few}
-use Rattle.bench_list.specs.Listing.{lineFor, benchLine, lineRoom}
+use Rattle.report.specs.Answer.{lineRoom}
+use Rattle.bench_list.specs.Listing.{lineFor, benchLine}
 
 -- the numbers of the refusals have at most four digits
 refused-few : (number : ℕ) → number < 16 → length (refusedLine number) ≤ 13
@@ -31,12 +33,10 @@ small-done : (n : ℕ) → Small (done n)
 small-done n number position e = absurd (done-not-refused refl e)
 
 small-if : (test : Bool) (k p : ℕ) (next : Outcome) → k < 16 → Small next → Small (refusedIf test k p next)
-unfolding refusedIf
-small-if true k p next h s number position e = let q : k ≡ number = cc in omega arith
-small-if false k p next h s number position e = s number position e
+small-if test k p next h s = by-test Small test k p next (λ _ number position e. let q : k ≡ number = cc in omega arith) (λ _. s)
 
 small-number : (label : List ℕ) → Small (decodeOutcome Lace 63 label)
-unfolding decodeOutcome lace.decodeOutcome
+unfolding decodeOutcome lace.decodeOutcome labelTests
 small-number label =
     small-if _ 1 _ _ (omega arith)
     (small-if _ 2 _ _ (omega arith)

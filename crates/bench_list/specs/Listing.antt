@@ -21,10 +21,6 @@ unfoldable pub benchLines : List (List ℕ) → List ℕ
 benchLines [] = []
 benchLines (line ∷ lines) = benchLine line ++ benchLines lines
 
--- the room that is lent for what is printed for a line
-abbrev pub lineRoom : ℕ
-lineRoom = 600
-
 -- the bytes that are held of a line: one more than a label has at most
 abbrev pub heldRoom : ℕ
 heldRoom = 64

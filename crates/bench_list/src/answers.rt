@@ -8,11 +8,11 @@ ghost use Prim.Native.Nat.{_≤_};
 ghost use lib.ListN.{length, take};
 ghost use Rattle.basis.specs.Outcome.{bytesOutcome, bufferAfter};
 ghost use Rattle.utf16.specs.Units.{toPoints, firstUnpaired};
-ghost use Rattle.firmware.specs.Answer.{countOf, pointsOf};
+ghost use Rattle.firmware.specs.Answer.{pointsOf};
 ghost use Rattle.report.specs.Lines.{pointsLine};
-ghost use Rattle.report.specs.Answer.{lineOutcome};
+ghost use Rattle.report.specs.Answer.{lineRoom, lineOutcome};
 ghost use Rattle.lines.specs.Step.{inFront};
-ghost use Rattle.bench_list.specs.Listing.{benchLine, lineRoom};
+ghost use Rattle.bench_list.specs.Listing.{benchLine};
 ghost use Rattle.bench_list.specs.TextBytes.{TextBytes};
 
 // The scheme's number at the interface: the house default, which is LACE.
@@ -20,19 +20,6 @@ const SCHEME: u32 = 0;
 
 // What the interface adds to the number of a refusal.
 const REFUSED: u32 = 1000;
-
-// How many bytes were written; an error has written none.
-fn count(answer: BytesAnswer) -> usize
-    ensures { λ r. ⌜ r ≡ countOf (bytesOutcome answer) ⌝ }
-{
-    match answer {
-        BytesAnswer::Bytes(bytes) => bytes.0,
-        BytesAnswer::Error {
-            code: _,
-            position: _,
-        } => 0,
-    }
-}
 
 // Writes the line of the points of a row of at most 126 units without an unpaired surrogate.
 fn units_line(units: &[u16], count: UnitCount, out: &mut [u8]) -> BytesAnswer
@@ -77,7 +64,7 @@ pub(crate) fn answer_line(label: &[u8], out: &mut [u8]) -> usize
     let answer = firmware::distelhut_read(SCHEME, label, &mut text);
     if answer < REFUSED {
         let n = answer as usize;
-        return count(text_line(&text[..n], out));
+        return basis::bytes_written(text_line(&text[..n], out));
     }
-    count(report::refused_line(answer - REFUSED, out))
+    basis::bytes_written(report::refused_line(answer - REFUSED, out))
 }

@@ -3,7 +3,7 @@ use crate::answers;
 use lines::LineStep;
 ghost use Prim.Native.Nat.{_*_, _≤_};
 ghost use lib.ListN.{length, take};
-ghost use Rattle.bench_list.specs.Listing.{lineRoom};
+ghost use Rattle.report.specs.Answer.{lineRoom};
 ghost use Rattle.bench_list.specs.Answered.{Answered};
 
 // How many bytes were written, and how many are held of the line that has not ended.

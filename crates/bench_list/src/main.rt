@@ -5,7 +5,8 @@ mod chunks;
 ghost use mathlib.Core.Path.{_≡_};
 ghost use Prim.Native.Nat.{_*_, _≤_};
 ghost use lib.ListN.{length};
-ghost use Rattle.bench_list.specs.Listing.{heldRoom, lineRoom};
+ghost use Rattle.report.specs.Answer.{lineRoom};
+ghost use Rattle.bench_list.specs.Listing.{heldRoom};
 
 // Whether there may be more input, and how many bytes are held of the line that has not ended.
 struct Turn {

@@ -10,8 +10,9 @@ use borrow.Author.Tests.{le-ltb, ltb-false, ne-eqb, not-false}
 use native.Mathlib.Omega.{arith}
 use Rattle.basis.specs.Rows.{AllBelow}
 use Rattle.basis.specs.Outcome.{Outcome, done, refused, refusedIf, bufferAfter}
+use Rattle.basis.specs.Outcome as basis
 use Rattle.basis.proofs.Tests.{cases, true-not-false, within-true, within-low, within-high, first-le, none-iff}
-use Rattle.basis.proofs.Outcome.{done-not-refused, done-count}
+use Rattle.basis.proofs.Outcome.{by-test, done-not-refused, done-count}
 use Rattle.utf16.specs.Points.{isPoint, isText, firstNotPoint}
 use Rattle.utf16.specs.Units as utf16
 use Rattle.utf16.specs.Answer as utf16-answer
@@ -37,6 +38,7 @@ use Rattle.scheme.specs.declared.Scheme.the-variants.{Altdude, Lace}
 use Rattle.scheme.specs.declared.Named.{Named}
 use Rattle.scheme.specs.declared.Named.the-variants.{Known, Unknown}
 use Rattle.scheme.specs.Naming.{numberNames}
+use Rattle.labels.specs.Tests.{textTests, labelTests}
 use Rattle.scheme.specs.Coding as scheme
 use Rattle.nametable.specs.Format.{countOf, readerOf, lengthOf, labelIn, schemeIn}
 use Rattle.nametable.specs.Answer.{labelJudged, entryJudged, thenEntries, entriesJudged, readOutcome, findOutcome, entryIn, counted, entryText}
@@ -63,9 +65,7 @@ module _ {codes : List ℕ} where
 
   listed-if : (test : Bool) (number position : ℕ) {next : Outcome} → isOneOf codes number ≡ true → (test ≡ false → Listed codes next)
       → Listed codes (refusedIf test number position next)
-  unfolding refusedIf
-  listed-if true number position here later = listed-refused number position here
-  listed-if false number position here later = later refl
+  listed-if test number position {next} here later = by-test (Listed codes) test number position next (λ _. listed-refused number position here) later
 
 -- an outcome is done, or refused with a listed number; done, it counts its values, for which there is room
 record Good (codes : List ℕ) (outcome : Outcome) (values : List ℕ) (room : ℕ) : Type 0 where
@@ -74,7 +74,7 @@ record Good (codes : List ℕ) (outcome : Outcome) (values : List ℕ) (room : �
 
 -- an entry with such an outcome, whose buffer has the room
 answers : {codes : List ℕ} (outcome : Outcome) {values : List ℕ} {buffer : List ℕ} → Good codes outcome values (length buffer) → Answers codes outcome values buffer
-unfolding bufferAfter firmware.countOf
+unfolding bufferAfter basis.countOf
 answers (done n) {values} {buffer} g =
     let c = g .counts n refl in
     record {
@@ -104,9 +104,8 @@ module _ {codes values : List ℕ} {room : ℕ} where
 
   good-if : (test : Bool) (number position : ℕ) {next : Outcome} → (test ≡ true → isOneOf codes number ≡ true) → (test ≡ false → Good codes next values room)
       → Good codes (refusedIf test number position next) values room
-  unfolding refusedIf
-  good-if true number position here later = good-refused number position (here refl)
-  good-if false number position here later = later refl
+  good-if test number position {next} here later =
+      by-test (λ o. Good codes o values room) test number position next (λ e. good-refused number position (here e)) later
 
 -- the converter
 to-units : (points : List ℕ) (count : ℕ) (units : List ℕ)
@@ -138,39 +137,66 @@ base32-decode characters octets =
     (sym (length-toOctets (alphabet.valuesOf alphabet.lace characters) ∙ ap octetCount (length-values alphabet.lace characters)))
     (ltb-false _ _ room)))))
 
--- writing a label, where the numbers of its tests are listed; 4 need be only if a number is no point
+-- the first tests, where their numbers are listed
+module _ {codes values : List ℕ} (capacity : ℕ) {next : Outcome} where
+  -- of writing a text; 4 need be only if a number is no point
+  text-good : (t : List ℕ) → isOneOf codes 1 ≡ true → isOneOf codes 2 ≡ true → (ltb (firstNotPoint t) (length t) ≡ true → isOneOf codes 4 ≡ true)
+      → (63 ≤ capacity → Good codes next values capacity) → Good codes (textTests capacity t next) values capacity
+  unfolding textTests
+  text-good t one two four rest =
+      good-if _ _ _ (λ _. one) (λ room. good-if _ _ _ (λ _. two) (λ _. good-if _ _ _ four (λ _. rest (ltb-false capacity 63 room))))
+
+  -- of reading a label; 1, 2 and 3 need be only if there is no room, and for no byte or too many
+  label-good : (bytes : ℕ) → (ltb capacity 63 ≡ true → isOneOf codes 1 ≡ true) → (eqb bytes 0 ≡ true → isOneOf codes 2 ≡ true) → (ltb 63 bytes ≡ true → isOneOf codes 3 ≡ true)
+      → (63 ≤ capacity → bytes ≤ 63 → Good codes next values capacity) → Good codes (labelTests capacity bytes next) values capacity
+  unfolding labelTests
+  label-good bytes one two three rest =
+      good-if _ _ _ one (λ room. good-if _ _ _ two (λ _. good-if _ _ _ three (λ short. rest (ltb-false capacity 63 room) (ltb-false 63 bytes short))))
+
+-- what they come to where nothing follows
+check-text : (capacity : ℕ) (t : List ℕ) → Listed (1 ∷ 2 ∷ 4 ∷ []) (textTests capacity t (done 0))
+unfolding isOneOf
+check-text capacity t = text-good {values = []} capacity t refl refl (λ _. refl) (λ _. good-done 0 refl (omega arith)) .listed
+
+check-label : (capacity bytes : ℕ) → Listed (1 ∷ 2 ∷ 3 ∷ []) (labelTests capacity bytes (done 0))
+unfolding isOneOf
+check-label capacity bytes = label-good {values = []} capacity bytes (λ _. refl) (λ _. refl) (λ _. refl) (λ _ _. good-done 0 refl (omega arith)) .listed
+
+-- writing a label: the scheme's own test, then 3
 module _ (codes : List ℕ) (capacity : ℕ) (t : List ℕ)
     (one : isOneOf codes 1 ≡ true) (two : isOneOf codes 2 ≡ true) (three : isOneOf codes 3 ≡ true)
     (four : ltb (firstNotPoint t) (length t) ≡ true → isOneOf codes 4 ≡ true) where
+  own-good : (number : ℕ) (own : Bool) (label : List ℕ) → isOneOf codes number ≡ true
+      → Good codes (textTests capacity t (refusedIf own number 0 (refusedIf (ltb 63 (length label)) 3 0 (done (length label))))) label capacity
+  own-good number own label here =
+      text-good capacity t one two four (λ room. good-if _ _ _ (λ _. here) (λ _. good-if _ _ _ (λ _. three) (λ short.
+      good-done _ refl (omega (arith, ltb-false 63 (length label) short)))))
+
   altdude-encoded : isOneOf codes 5 ≡ true → Good codes (altdude.encodeOutcome capacity t) (altdude-encoding.labelOf t) capacity
   unfolding altdude.encodeOutcome
-  altdude-encoded five =
-      good-if _ _ _ (λ _. one) (λ room. good-if _ _ _ (λ _. two) (λ _. good-if _ _ _ four (λ _. good-if _ _ _ (λ _. five) (λ _. good-if _ _ _ (λ _. three) (λ short.
-      good-done _ refl (omega (arith, ltb-false capacity 63 room, ltb-false 63 (length (altdude-encoding.labelOf t)) short)))))))
+  altdude-encoded five = own-good 5 _ _ five
 
   lace-encoded : isOneOf codes 6 ≡ true → Good codes (lace.encodeOutcome isAllLdh capacity t) (lace-encoding.labelOf t) capacity
   unfolding lace.encodeOutcome
-  lace-encoded six =
-      good-if _ _ _ (λ _. one) (λ room. good-if _ _ _ (λ _. two) (λ _. good-if _ _ _ four (λ _. good-if _ _ _ (λ _. six) (λ _. good-if _ _ _ (λ _. three) (λ short.
-      good-done _ refl (omega (arith, ltb-false capacity 63 room, ltb-false 63 (length (lace-encoding.labelOf t)) short)))))))
+  lace-encoded six = own-good 6 _ _ six
 
--- reading a label; 1, 2 and 3 need be only if there is no room, and for no byte or too many
+-- reading a label
 module _ (codes : List ℕ) (capacity : ℕ) (l : List ℕ)
     (one : ltb capacity 63 ≡ true → isOneOf codes 1 ≡ true) (two : eqb (length l) 0 ≡ true → isOneOf codes 2 ≡ true)
     (three : ltb 63 (length l) ≡ true → isOneOf codes 3 ≡ true) (seven : isOneOf codes 7 ≡ true) (nine : isOneOf codes 9 ≡ true) where
   altdude-decoded : isOneOf codes 5 ≡ true → Good codes (altdude.decodeOutcome capacity l) (altdude-decoding.textOf l) capacity
   unfolding altdude.decodeOutcome
   altdude-decoded five =
-      good-if _ _ _ one (λ room. good-if _ _ _ two (λ _. good-if _ _ _ three (λ short.
+      label-good capacity (length l) one two three (λ room short.
       good-if _ _ _ (λ _. seven) (λ _. good-if _ _ _ (λ _. five) (λ _. good-if _ _ _ (λ _. nine) (λ _.
-      good-done _ refl (omega (arith, altdude-laws.text-fits l, ltb-false capacity 63 room, ltb-false 63 (length l) short))))))))
+      good-done _ refl (omega (arith, altdude-laws.text-fits l))))))
 
   lace-decoded : isOneOf codes 8 ≡ true → isOneOf codes 6 ≡ true → Good codes (lace.decodeOutcome isAllLdh capacity l) (lace-decoding.textOf l) capacity
   unfolding lace.decodeOutcome
   lace-decoded eight six =
-      good-if _ _ _ one (λ room. good-if _ _ _ two (λ _. good-if _ _ _ three (λ short.
+      label-good capacity (length l) one two three (λ room short.
       good-if _ _ _ (λ _. eight) (λ _. good-if _ _ _ (λ _. seven) (λ _. good-if _ _ _ (λ _. nine) (λ _. good-if _ _ _ (λ _. six) (λ _.
-      good-done _ refl (omega (arith, lace-laws.text-fits l, ltb-false capacity 63 room, ltb-false 63 (length l) short)))))))))
+      good-done _ refl (omega (arith, lace-laws.text-fits l)))))))
 
 scheme-encode : (s : Scheme) (text label : List ℕ) → Answers (encodeCodes s) (scheme.encodeOutcome s (length label) text) (scheme.labelOf s text) label
 unfolding encodeCodes scheme.encodeOutcome scheme.labelOf isOneOf
@@ -323,8 +349,8 @@ firmware-read number label text =
     answers _ (known-good (numberNames number) _ _ refl (λ s. good-if _ _ _ (λ _. refl) (λ room. read-label s (length text) label (ltb-false (length text) 252 room))))
 
 -- what the one number tells
-tells : (most : ℕ) (outcome : Outcome) → most < 1000 → firmware.countOf outcome ≤ most → Tells most outcome
-unfolding answerOf firmware.countOf
+tells : (most : ℕ) (outcome : Outcome) → most < 1000 → basis.countOf outcome ≤ most → Tells most outcome
+unfolding answerOf basis.countOf
 tells most (done n) below few = record { counts = λ h. (refl, few); refuses = λ number e. absurd (omega arith) }
 tells most (refused k p) below few = record {
   counts = λ h. absurd (omega arith);
@@ -340,6 +366,8 @@ demand1 = record {
   toPointsOrder = to-points-settled;
   base32Encode = base32-encode;
   base32Decode = base32-decode;
+  checkText = check-text;
+  checkLabel = check-label;
   altdudeEncode = scheme-encode Altdude;
   altdudeDecode = scheme-decode Altdude;
   laceEncode = scheme-encode Lace;

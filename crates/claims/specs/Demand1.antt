@@ -9,7 +9,7 @@ use mathlib.Core.List.{List, [], _∷_}
 use lib.Dec.{eqb}
 use lib.ListN.{length, take, drop}
 use Rattle.basis.specs.Rows.{at, AllBelow}
-use Rattle.basis.specs.Outcome.{Outcome, done, refused, bufferAfter}
+use Rattle.basis.specs.Outcome.{Outcome, done, refused, countOf, bufferAfter}
 use Rattle.basis.specs.Causes.{Settles}
 use Rattle.utf16.specs.Units as utf16
 use Rattle.utf16.specs.Answer as utf16-answer
@@ -17,6 +17,7 @@ use Rattle.utf16.specs.Causes.{toUnitsCauses, toPointsCauses}
 use Rattle.base32.specs.Alphabet as alphabet
 use Rattle.base32.specs.Base32.{charactersOf, toOctets}
 use Rattle.base32.specs.Answer as base32
+use Rattle.labels.specs.Tests.{textTests, labelTests}
 use Rattle.altdude.specs.Encoding as altdude-encoding
 use Rattle.altdude.specs.Decoding as altdude-decoding
 use Rattle.altdude.specs.Answer as altdude
@@ -54,9 +55,9 @@ pub record Answers (codes : List ℕ) (outcome : Outcome) (values buffer : List 
   -- if it is done, the values stand before the count
   pub written : (count : ℕ) → outcome ≡ done count → take count (bufferAfter outcome values buffer) ≡ values
   -- the count, 0 of a refusal, is within the buffer, which is as long as before, and nothing changes from the count on
-  pub within : firmware.countOf outcome ≤ length buffer
+  pub within : countOf outcome ≤ length buffer
   pub asLong : length (bufferAfter outcome values buffer) ≡ length buffer
-  pub unchanged : drop (firmware.countOf outcome) (bufferAfter outcome values buffer) ≡ drop (firmware.countOf outcome) buffer
+  pub unchanged : drop (countOf outcome) (bufferAfter outcome values buffer) ≡ drop (countOf outcome) buffer
 
 -- the one number of an outcome tells which it is: below 1000 a count, at most this one, and else 1000 plus the refusal's number
 pub record Tells (most : ℕ) (outcome : Outcome) : Type 0 where
@@ -108,6 +109,9 @@ pub record Demand1 : Type 0 where
       → Answers (1 ∷ []) (base32.encodeOutcome octets (length characters)) (charactersOf alphabet.lace octets) characters
   pub base32Decode : (characters octets : List ℕ)
       → Answers (1 ∷ 7 ∷ 9 ∷ []) (base32.decodeOutcome characters (length octets)) (toOctets (alphabet.valuesOf alphabet.lace characters)) octets
+  -- labels: what the first tests come to where nothing follows
+  pub checkText : (capacity : ℕ) (text : List ℕ) → Listed (1 ∷ 2 ∷ 4 ∷ []) (textTests capacity text (done 0))
+  pub checkLabel : (capacity bytes : ℕ) → Listed (1 ∷ 2 ∷ 3 ∷ []) (labelTests capacity bytes (done 0))
   -- altdude, lace, and by scheme
   pub altdudeEncode : (text label : List ℕ)
       → Answers (encodeCodes Altdude) (altdude.encodeOutcome (length label) text) (altdude-encoding.labelOf text) label

@@ -1,12 +1,13 @@
 -- The counts that the C interface answers: at most 63 bytes of a label, at most 252 of a text, so that no count is taken for a refusal.
 use Prim.Native.Nat.{ℕ, _≤_}
 use mathlib.Core.Path.{_≡_, refl}
-use mathlib.Core.Bool.{Bool, true, false}
+use mathlib.Core.Bool.{Bool}
 use mathlib.Core.List.{List}
 use lib.Dec.{eqb, ltb}
 use lib.ListN.{length}
 use native.Mathlib.Omega.{arith}
-use Rattle.basis.specs.Outcome.{Outcome, done, refused, refusedIf}
+use Rattle.basis.specs.Outcome.{Outcome, done, refused, refusedIf, countOf}
+use Rattle.basis.proofs.Outcome.{by-test}
 use Rattle.utf16.specs.Units as utf16
 use Rattle.utf16.proofs.RoundTrip as utf16-laws
 use Rattle.wire.specs.Bytes as wire
@@ -19,13 +20,12 @@ use Rattle.scheme.proofs.SchemeFacts.{encoded-short}
 use Rattle.scheme.specs.declared.Scheme.{Scheme}
 use Rattle.scheme.specs.declared.Named.{Named}
 use Rattle.scheme.specs.declared.Named.the-variants.{Known, Unknown}
-use Rattle.firmware.specs.Answer.{countOf, ifKnown, bytesOf, writeUnits, writeBy, writeOutcome, inBytes, readBy, readOutcome}
+use Rattle.firmware.specs.Answer.{ifKnown, bytesOf, writeUnits, writeBy, writeOutcome, inBytes, readBy, readOutcome}
 
 -- a refusal's count is 0, below any bound
 few-if : (bound : ℕ) (test : Bool) (number position : ℕ) (next : Outcome) → countOf next ≤ bound → countOf (refusedIf test number position next) ≤ bound
-unfolding refusedIf countOf
-few-if bound true number position next h = omega arith
-few-if bound false number position next h = h
+unfolding countOf
+few-if bound test number position next h = by-test (λ o. countOf o ≤ bound) test number position next (λ _. omega arith) (λ _. h)
 
 few-known : (bound : ℕ) (named : Named) (outcome : Scheme → Outcome) → ((s : Scheme) → countOf (outcome s) ≤ bound) → countOf (ifKnown named outcome) ≤ bound
 unfolding ifKnown countOf

@@ -1,15 +1,14 @@
--- Laws on reading: what each step of it makes of a label.
-use Prim.Native.Nat.{ℕ, _*_, _≤_, _<_}
+-- Laws on reading: the points of a text become bytes by way of units.
+use Prim.Native.Nat.{ℕ, _*_, _≤_}
 use mathlib.Core.Path.{_≡_, refl, sym, ap, _∙_}
 use mathlib.Core.Bool.{true}
 use mathlib.Core.List.{List}
 use lib.ListN.{length, getD, take}
 use lib.Seq.{length-take-le}
-use borrow.Author.Tests.{lt-ltb, le-ltb}
 use native.Mathlib.Omega.{arith}
-use Rattle.basis.specs.Outcome.{Outcome, done, refused, refusedIf, bufferAfter}
+use Rattle.basis.specs.Outcome.{Outcome, done, refused, bufferAfter}
 use Rattle.basis.proofs.Tests.{none-iff}
-use Rattle.basis.proofs.Outcome.{refusal-leaves, done-not-refused, done-count}
+use Rattle.basis.proofs.Outcome.{values-fit, values-are, done-not-refused, done-count}
 use Rattle.utf16.specs.Points.{isPoint, isText, firstNotPoint}
 use Rattle.utf16.specs.Units.{toUnits}
 use Rattle.utf16.specs.Answer.{toUnitsOutcome}
@@ -18,10 +17,7 @@ use Rattle.utf16.proofs.RoundTrip.{length-toUnits}
 use Rattle.wire.specs.Bytes.{toBytes}
 use Rattle.wire.specs.Answer.{toBytesOutcome}
 use Rattle.wire.proofs.Refusals.{bytes-done}
-use Rattle.scheme.specs.Coding.{decodeOutcome, textOf}
-use Rattle.scheme.specs.declared.Scheme.{Scheme}
-use Rattle.firmware.specs.Answer.{bytesOf, inBytes, readBy}
-use Rattle.firmware.proofs.Steps.{values-fit, values-are}
+use Rattle.firmware.specs.Answer.{bytesOf}
 
 -- the first n of a row of numbers, at most 63, all points
 module _ (ps : List ℕ) (n : ℕ) (inside : n ≤ length ps) (few : n ≤ 63) (text : isText (take n ps) ≡ true) where
@@ -53,26 +49,3 @@ module _ (ps : List ℕ) (n : ℕ) (inside : n ≤ length ps) (few : n ≤ 63) (
         let d : toBytesOutcome units k (length buffer) ≡ done (length (toBytes (toUnits row)))
         = bytes-done units k (length buffer) (values-fit _ _ _ _ _ is units-counted left) fits _ (ap (λ (x : List ℕ). length (toBytes x)) (sym e)) in
         (a ∙ d, b ∙ rw (d, e))
-
--- a label, test by test
-module _ (s : Scheme) (label buffer : List ℕ) where
-  abbrev whole : Outcome
-  whole = readBy s (length buffer) label
-
-  -- the answer and the text buffer are as they must be
-  abbrev Meets : Outcome → List ℕ → Type 0
-  Meets answer now = (answer ≡ whole) × (now ≡ bufferAfter whole (bytesOf (textOf s label)) buffer)
-
-  pub read-1 : length buffer < 252 → (answer : Outcome) → answer ≡ refused 1 0 → Meets answer buffer
-  unfolding readBy refusedIf
-  read-1 h answer a = refusal-leaves _ answer _ buffer 1 0 a (rw (lt-ltb (length buffer) 252 h))
-
-  module _ (room : 252 ≤ length buffer) where
-    pub read-refused : (number position : ℕ) → decodeOutcome s 63 label ≡ refused number position → (answer : Outcome) → answer ≡ refused number position → Meets answer buffer
-    unfolding readBy refusedIf inBytes
-    read-refused number position e answer a = refusal-leaves _ answer _ buffer number position a (rw (le-ltb (length buffer) 252 room, e))
-
-    pub read-done : (n : ℕ) → decodeOutcome s 63 label ≡ done n → (text : List ℕ) → text ≡ textOf s label → (answer : Outcome) (now : List ℕ)
-        → answer ≡ done (length (bytesOf text)) → now ≡ bufferAfter (done (length (bytesOf text))) (bytesOf text) buffer → Meets answer now
-    unfolding readBy refusedIf inBytes
-    read-done n e text t answer now a b = rw (le-ltb (length buffer) 252 room, e) (rw t at a, rw t at b)

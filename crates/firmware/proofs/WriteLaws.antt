@@ -1,23 +1,23 @@
 -- Laws on writing: what each step of it makes of a text.
-use Prim.Native.Nat.{ℕ, _%_, _≤_, _<_}
+use Prim.Native.Nat.{ℕ, _%_, _≤_}
 use mathlib.Core.Path.{_≡_, refl, sym, _∙_}
 use mathlib.Core.List.{List}
 use lib.Dec.{ltb}
 use lib.ListN.{length, take}
 use lib.Seq.{length-take-le}
-use borrow.Author.Tests.{lt-ltb, le-ltb, eq-eqb, ne-eqb}
+use borrow.Author.Tests.{le-ltb}
 use native.Mathlib.Omega.{arith}
 use Rattle.basis.specs.Outcome.{Outcome, done, refused, refusedIf, bufferAfter}
 use Rattle.basis.proofs.Outcome.{refusal-leaves, done-not-refused, done-count}
 use Rattle.utf16.specs.Units.{toPoints, firstUnpaired}
 use Rattle.utf16.specs.Answer.{converted, toPointsOutcome}
 use Rattle.wire.specs.Bytes.{toUnits}
-use Rattle.wire.specs.Answer.{isOdd, toUnitsOutcome}
+use Rattle.wire.specs.Answer.{toUnitsOutcome}
 use Rattle.wire.proofs.RoundTrip.{length-toUnits}
 use Rattle.wire.proofs.Refusals.{units-done}
 use Rattle.scheme.specs.Coding.{encodeOutcome, labelOf}
 use Rattle.scheme.specs.declared.Scheme.{Scheme}
-use Rattle.firmware.specs.Answer.{pointsOf, writeUnits, writeBy}
+use Rattle.firmware.specs.Answer.{writeUnits}
 use Rattle.firmware.proofs.Steps.{handed-refused, handed-on}
 
 -- the first n units of a row, where there is room for as many points
@@ -65,43 +65,3 @@ module _ (bytes : List ℕ) (even : length bytes % 2 ≡ 1 → ⊥) (short : len
 
   pub units-few : (n : ℕ) → toUnitsOutcome bytes 126 ≡ done n → n ≤ 126
   units-few n e = omega (arith, units-count n e, length-toUnits bytes)
-
--- a text of bytes, test by test
-module _ (s : Scheme) (bytes label : List ℕ) where
-  abbrev whole : Outcome
-  whole = writeBy s (length label) bytes
-
-  -- the answer and the label buffer are as they must be
-  abbrev Meets : Outcome → List ℕ → Type 0
-  Meets answer now = (answer ≡ whole) × (now ≡ bufferAfter whole (labelOf s (pointsOf bytes)) label)
-
-  pub write-1 : length label < 63 → (answer : Outcome) → answer ≡ refused 1 0 → Meets answer label
-  unfolding writeBy refusedIf
-  write-1 h answer a = refusal-leaves _ answer _ label 1 0 a (rw (lt-ltb (length label) 63 h))
-
-  module _ (fits : 63 ≤ length label) where
-    pub write-12 : length bytes % 2 ≡ 1 → (answer : Outcome) → answer ≡ refused 12 0 → Meets answer label
-    unfolding writeBy refusedIf isOdd
-    write-12 h answer a = refusal-leaves _ answer _ label 12 0 a (rw (le-ltb (length label) 63 fits, eq-eqb (length bytes % 2) 1 h))
-
-    module _ (even : length bytes % 2 ≡ 1 → ⊥) where
-      pub write-2 : length bytes ≡ 0 → (answer : Outcome) → answer ≡ refused 2 0 → Meets answer label
-      unfolding writeBy refusedIf isOdd
-      write-2 h answer a =
-          refusal-leaves _ answer _ label 2 0 a (rw (le-ltb (length label) 63 fits, ne-eqb (length bytes % 2) 1 even, eq-eqb (length bytes) 0 h))
-
-      module _ (some : length bytes ≡ 0 → ⊥) where
-        pub write-3 : 252 < length bytes → (answer : Outcome) → answer ≡ refused 3 0 → Meets answer label
-        unfolding writeBy refusedIf isOdd
-        write-3 h answer a =
-            refusal-leaves _ answer _ label 3 0 a
-            (rw (le-ltb (length label) 63 fits, ne-eqb (length bytes % 2) 1 even, ne-eqb (length bytes) 0 some, lt-ltb 252 (length bytes) h))
-
-        module _ (short : length bytes ≤ 252) where
-          pub write-row : (row : List ℕ) → row ≡ toUnits bytes → (answer : Outcome) (now : List ℕ)
-              → answer ≡ writeUnits s (length label) row
-              → now ≡ bufferAfter (writeUnits s (length label) row) (labelOf s (toPoints row)) label
-              → Meets answer now
-          unfolding writeBy refusedIf isOdd pointsOf
-          write-row row e answer now a b =
-              rw (le-ltb (length label) 63 fits, ne-eqb (length bytes % 2) 1 even, ne-eqb (length bytes) 0 some, le-ltb 252 (length bytes) short) (rw e at a, rw e at b)

@@ -13,11 +13,6 @@ use Rattle.scheme.specs.declared.Scheme.{Scheme}
 use Rattle.scheme.specs.declared.Named.{Named}
 use Rattle.scheme.specs.declared.Named.the-variants.{Known, Unknown}
 
--- the count of an answer; a refusal's is 0
-unfoldable pub countOf : Outcome → ℕ
-countOf (done count) = count
-countOf (refused number position) = 0
-
 -- the one number of an answer: the bytes written, or 1000 and the refusal's number
 unfoldable pub answerOf : Outcome → ℕ
 answerOf (done count) = count

@@ -5,6 +5,7 @@ use mathlib.Core.List.{List, [], _∷_}
 use lib.ListN.{length}
 use Rattle.basis.specs.Causes.{Cause, whole, placed}
 use Rattle.utf16.specs.Causes.{UnpairedAt}
+use Rattle.labels.specs.Causes.{Empty}
 use Rattle.wire.specs.Bytes.{toUnits}
 use Rattle.scheme.specs.Naming.{numberNames}
 use Rattle.scheme.specs.Schemes.{schemeOf}
@@ -20,10 +21,6 @@ UnknownNumber number = 2 < number
 -- 12: an odd number of bytes
 abbrev pub OddBytes : List ℕ → Type 0
 OddBytes bytes = length bytes % 2 ≡ 1
-
--- 2: empty
-abbrev pub Empty : List ℕ → Type 0
-Empty bytes = length bytes ≡ 0
 
 -- 3: over 252 bytes
 abbrev pub TextTooLong : List ℕ → Type 0

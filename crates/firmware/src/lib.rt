@@ -6,8 +6,8 @@ use basis::BytesAnswer;
 ghost use mathlib.Core.Path.{_≡_};
 ghost use Prim.Native.Nat.{_≤_};
 ghost use lib.ListN.{length};
-ghost use Rattle.basis.specs.Outcome.{bytesOutcome, bufferAfter};
-ghost use Rattle.firmware.specs.Answer.{countOf, answerOf, writeOutcome, writtenLabel, readOutcome, readText};
+ghost use Rattle.basis.specs.Outcome.{countOf, bytesOutcome, bufferAfter};
+ghost use Rattle.firmware.specs.Answer.{answerOf, writeOutcome, writtenLabel, readOutcome, readText};
 
 // The one number of an answer: the bytes written, or 1000 plus the error's number.
 fn answer_number(answer: BytesAnswer) -> u32

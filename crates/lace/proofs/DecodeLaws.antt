@@ -1,5 +1,5 @@
 -- Reading a label: the prefix, the loops over octets, what the octets stand for, and what each return answers.
-use Prim.Native.Nat.{ℕ, suc, _+_, _-_, _*_, _/_, _%_, _<_, _≤_}
+use Prim.Native.Nat.{ℕ, suc, _+_, _-_, _*_, _%_, _<_, _≤_}
 use mathlib.Core.Path.{_≡_, refl, sym, ap, _∙_}
 use mathlib.Core.Bool.{Bool, true, false, not}
 use mathlib.Core.List.{List, [], _∷_, _++_}
@@ -8,15 +8,15 @@ use native.Mathlib.Omega.{arith}
 use denote.Enum.Declared.{tagOf}
 use types.Run.{OneOf, miss}
 use lib.Dec.{eqb, ltb, leb}
-use lib.ListN.{length, take, drop, set, length-drop, drop-of-length-le}
+use lib.ListN.{length, take, drop, length-drop, drop-of-length-le}
 use lib.Seq.{sets, drop-cons}
-use borrow.Author.Tests.{lt-ltb, le-ltb, eq-eqb, ne-eqb, eqb-true, eqb-false, not-true, not-false}
-use Rattle.basis.specs.Tests.{pick, both, every, within}
+use borrow.Author.Tests.{le-ltb, eq-eqb, ne-eqb, eqb-true, eqb-false, not-true, not-false}
+use Rattle.basis.specs.Tests.{both, every, within}
 use Rattle.basis.specs.Rows.{at}
 use Rattle.basis.specs.Case.{isCapital, small}
 use Rattle.basis.specs.Outcome.{Outcome, done, refused, refusedIf, numberOf, bytesOutcome, bufferAfter}
 use Rattle.basis.specs.declared.ErrorCode.{ErrorCode}
-use Rattle.basis.specs.declared.ErrorCode.the-variants.{Capacity, Empty, TooLong, NotAPoint, EdgeHyphen, AllLdh, OutsideAlphabet, NoPrefix, NotWellFormed, UnpairedSurrogate, UnknownScheme, OddByteCount, Truncated, Malformed}
+use Rattle.basis.specs.declared.ErrorCode.the-variants.{NotWellFormed}
 use Rattle.basis.specs.declared.ByteCount.{ByteCount}
 use Rattle.basis.specs.declared.BytesAnswer.{BytesAnswer}
 use Rattle.basis.specs.declared.BytesAnswer.the-variants as bytes
@@ -25,12 +25,15 @@ use Rattle.basis.proofs.Tests.{cases, by-lt, not-each, first-le, true-not-false
 use Rattle.basis.proofs.Lists.{at-past}
 use Rattle.basis.proofs.Stores.{Storing, storing-more, storing-none}
 use Rattle.basis.proofs.Parts.{part-is, front-is, front-fits}
-use Rattle.basis.proofs.Outcome.{refused-leaves}
+use Rattle.basis.proofs.Outcome.{pass-told, handed-leaves, number-place}
 use Rattle.utf16.specs.Units.{toPoints, unpairedAt, firstUnpaired}
 use Rattle.utf16.specs.Answer.{pointsOutcome, toPointsOutcome}
 use Rattle.utf16.specs.declared.PointsAnswer.{PointsAnswer}
 use Rattle.utf16.specs.declared.PointsAnswer.the-variants.{Error}
 use Rattle.utf16.proofs.Refusals.{all-done}
+use Rattle.labels.proofs.FirstTests.{LabelPassed, label-passes}
+use Rattle.wire.specs.Bytes.{toUnits}
+use Rattle.wire.proofs.RoundTrip.{length-toUnits}
 use Rattle.base32.specs.Alphabet.{lace, valuesOf}
 use Rattle.base32.specs.Form.{octetCount, isLawful}
 use Rattle.base32.specs.Base32.{toOctets}
@@ -40,8 +43,8 @@ use Rattle.base32.proofs.Regroup.{length-toOctets}
 use Rattle.base32.proofs.Values.{length-values}
 use Rattle.base32.proofs.Outcomes.{decode-settled, decode-position}
 use Rattle.lace.specs.Prefix.{prefix, hasPrefix, afterPrefix}
-use Rattle.lace.specs.Octets.{unitOf, runCount, isAllLdh}
-use Rattle.lace.specs.Decoding.{mayStand, placeAfter, mayEnd, unitAt, areRuns, unitsFrom, unitPairs, unitsOf, standForUnits, labelOctets, labelUnits, isReadable, textOf}
+use Rattle.lace.specs.Octets.{runCount, isAllLdh}
+use Rattle.lace.specs.Decoding.{mayStand, placeAfter, mayEnd, unitAt, areRuns, unitsFrom, unitsOf, standForUnits, labelOctets, labelUnits, isReadable, textOf}
 use Rattle.lace.specs.Answer.{decodeOutcome}
 use Rattle.lace.specs.Stepping.{octetsOutcome, errorAfterPrefix}
 use Rattle.lace.specs.declared.decoding.Place.{Place}
@@ -108,12 +111,6 @@ unfolding unitsFrom
 run-units-le place [] = omega arith
 run-units-le place (x ∷ os) = omega (arith, unit-le place x (unitsFrom (placeAfter place x) os), run-units-le (placeAfter place x) os)
 
-pairs-le : (os : List ℕ) → length (unitPairs os) ≤ length os
-unfolding unitPairs
-pairs-le [] = omega arith
-pairs-le (x ∷ []) = omega arith
-pairs-le (x ∷ y ∷ os) = omega (arith, pairs-le os)
-
 -- the loops that store units: the octets from an index on
 
 module _ (old os now : List ℕ) (place : Place) (k i : ℕ) (s : Storing old (unitsFrom (Count 256) os) now k (unitsFrom place (drop i os))) where
@@ -129,33 +126,6 @@ module _ (old os now : List ℕ) (place : Place) (k i : ℕ) (s : Storing old (u
   unfolding unitsFrom
   run-units-end h l = storing-none _ _ _ _ _ s (rw (drop-of-length-le os h)) (omega (arith, run-units-le (Count 256) os))
 
--- the pairs from an index on
-pairs-here : (os : List ℕ) (k : ℕ) → k + 1 < length os → unitPairs (drop k os) ≡ unitOf (at os k) (at os (k + 1)) ∷ unitPairs (drop (k + 2) os)
-unfolding unitPairs
-pairs-here os k h =
-    let g : k < length os = omega arith in
-    let t : suc k < length os = omega arith in
-    let e : k + 2 ≡ suc (suc k) = omega arith in
-    rw (e, add-one, drop-cons os k 0 g, drop-cons os (suc k) 0 t)
-
-no-pairs : (os : List ℕ) → length os ≤ 1 → unitPairs os ≡ []
-unfolding unitPairs
-no-pairs [] h = refl
-no-pairs (x ∷ []) h = refl
-no-pairs (x ∷ y ∷ os) h = absurd (omega arith)
-
-module _ (old os now : List ℕ) (i : ℕ) (s : Storing old (unitPairs os) now i (unitPairs (drop (2 * i) os))) where
-  pub pairs-turn : i < length os / 2 → Storing old (unitPairs os) (set now i (unitOf (at os (2 * i)) (at os (2 * i + 1)))) (i + 1) (unitPairs (drop (2 * (i + 1)) os))
-  pairs-turn h =
-      let e : 2 * (i + 1) ≡ 2 * i + 2 = omega arith in
-      storing-more _ _ _ _ _ s (unitOf (at os (2 * i)) (at os (2 * i + 1)) ∷ []) _ (rw e (pairs-here os (2 * i) (omega arith))) _ _ refl refl
-
-  pub pairs-end : length os / 2 ≤ i → i ≤ length os / 2 → length os ≤ length old
-      → (length os / 2 ≡ length (unitPairs os)) × (now ≡ unitPairs os ++ drop (length (unitPairs os)) old)
-  pairs-end h g l =
-      let e = storing-none _ _ _ _ _ s (no-pairs (drop (2 * i) os) (simp length-drop (omega arith))) (omega (arith, pairs-le os)) in
-      (omega (arith, e .0), e .1)
-
 -- the units of octets, and what the octets stand for
 
 -- so many values stand at the front of the buffer that was old
@@ -163,7 +133,7 @@ abbrev Stored : List ℕ → List ℕ → List ℕ → ℕ → Type 0
 Stored values old now n = (n ≡ length values) × (now ≡ values ++ drop (length values) old)
 
 module _ (os : List ℕ) where
-  units-ff : at os 0 ≡ 255 → unitsOf os ≡ unitPairs (drop 1 os)
+  units-ff : at os 0 ≡ 255 → unitsOf os ≡ toUnits (drop 1 os)
   unfolding unitsOf
   units-ff ff = rw (eq-eqb _ _ ff)
 
@@ -174,7 +144,7 @@ module _ (os : List ℕ) where
   pub units-le : length (unitsOf os) ≤ length os
   units-le =
       cases (eqb (at os 0) 255)
-      (λ e. rw (units-ff (eqb-true _ _ e)) (omega (arith, pairs-le (drop 1 os), length-drop 1 os)))
+      (λ e. rw (units-ff (eqb-true _ _ e)) (omega (arith, length-toUnits (drop 1 os), length-drop 1 os)))
       (λ e. rw (units-runs (eqb-false _ _ e)) (run-units-le (Count 256) os))
 
   pub stored-none : length os ≡ 0 → (old : List ℕ) → Stored (unitsOf os) old old 0
@@ -185,7 +155,7 @@ module _ (os : List ℕ) where
       nothing (x ∷ xs) e = absurd (omega arith)
 
   module _ (old now : List ℕ) (n : ℕ) where
-    pub stored-ff : at os 0 ≡ 255 → Stored (unitPairs (take (length os - 1) (drop 1 os))) old now n → Stored (unitsOf os) old now n
+    pub stored-ff : at os 0 ≡ 255 → Stored (toUnits (take (length os - 1) (drop 1 os))) old now n → Stored (unitsOf os) old now n
     stored-ff ff s = rw (units-ff ff) (rw (part-is 1 os) at s)
 
     pub stored-runs : (at os 0 ≡ 255 → ⊥) → Stored (unitsFrom (Count 256) os) old now n → Stored (unitsOf os) old now n
@@ -226,109 +196,46 @@ module _ (os us : List ℕ) (unitsIs : us ≡ unitsOf os) (r : ℕ) (runsIs : r 
     unfolding standForUnits both
     stand-runs n = rw (ne-eqb _ _ other, ← are, not-false runs n, runsIs, unitsIs)
 
--- an answer, and the buffer that is left, are as the outcome says
+-- what is found of the units at the front of a row
+module _ (os old row : List ℕ) (n : ℕ) (s : Stored (unitsOf os) old row n) where
+  -- by the first unpaired surrogate
+  module _ (bad : ℕ) (badIs : bad ≡ firstUnpaired (take n row)) where
+    bad-is : bad ≡ firstUnpaired (unitsOf os)
+    bad-is = badIs ∙ ap firstUnpaired (units-front os old row n s)
 
-abbrev Answered : Outcome → List ℕ → List ℕ → PointsAnswer → List ℕ → Type 0
-Answered outcome values buffer r left = (pointsOutcome r ≡ outcome) × (left ≡ bufferAfter outcome values buffer)
+    pub some-unpaired : bad < n → not (eqb (firstUnpaired (unitsOf os)) (length (unitsOf os))) ≡ true
+    some-unpaired h =
+        let b = bad-is in
+        let k = s .0 in
+        ap not (ne-eqb (firstUnpaired (unitsOf os)) (length (unitsOf os)) (λ q. omega arith))
 
-refusal : (outcome : Outcome) (values buffer : List ℕ) (code : ErrorCode) (position : ℕ) (r : PointsAnswer) → r ≡ Error code position
-    → outcome ≡ refused (numberOf code) position → Answered outcome values buffer r buffer
-unfolding pointsOutcome
-refusal outcome values buffer code position r e o =
-    let left = refused-leaves outcome values buffer (numberOf code) position o in
-    (ap pointsOutcome e ∙ left .0, left .1)
+    pub none-unpaired : n ≤ bad → not (eqb (firstUnpaired (unitsOf os)) (length (unitsOf os))) ≡ false
+    unfolding firstUnpaired
+    none-unpaired h =
+        let b = bad-is in
+        let k = s .0 in
+        ap not (eq-eqb (firstUnpaired (unitsOf os)) (length (unitsOf os)) (omega (arith, first-le (length (unitsOf os)) (unpairedAt 0 (unitsOf os)))))
 
--- the returns of `decode_octets`
+    -- the converter is done with units of which none is unpaired
+    pub points-done : n ≤ bad → (capacity : ℕ) → (length os ≤ 36) × (63 ≤ capacity) → toPointsOutcome row n capacity ≡ done (length (toPoints (unitsOf os)))
+    unfolding toPointsOutcome
+    points-done h capacity room =
+        all-done (length row) n n capacity (firstUnpaired (take n row)) 10 _ (units-within os old row n s) (omega (arith, s .0, units-le os)) bad badIs h
+        (length (toPoints (unitsOf os))) (rw (units-front os old row n s))
 
-module _ (os buffer : List ℕ) where
-  abbrev OctetsAnswered : PointsAnswer → List ℕ → Type 0
-  OctetsAnswered = Answered (octetsOutcome os) (toPoints (unitsOf os)) buffer
+  pub ldh-is : (ldh : Bool) → ldh ≡ isAllLdh (take n row) → ldh ≡ isAllLdh (unitsOf os)
+  ldh-is ldh e = e ∙ ap isAllLdh (units-front os old row n s)
 
-  octets-refusal : (code : ErrorCode) (r : PointsAnswer) → r ≡ Error code 0 → octetsOutcome os ≡ refused (numberOf code) 0 → OctetsAnswered r buffer
-  octets-refusal code r e o = refusal (octetsOutcome os) (toPoints (unitsOf os)) buffer code 0 r e o
-
-  module _ (stands : Bool) (standsIs : stands ≡ standForUnits os) where
-    pub octets-not : not stands ≡ true → (r : PointsAnswer) → r ≡ Error NotWellFormed 0 → OctetsAnswered r buffer
-    unfolding octetsOutcome refusedIf numberOf
-    octets-not n r e = octets-refusal NotWellFormed r e (simp (sym standsIs ∙ not-true stands n))
-
-    -- the octets stand for units, which are at the front of a row
-    module _ (yes : not stands ≡ false) (old row : List ℕ) (n : ℕ) (s : Stored (unitsOf os) old row n) (bad : ℕ) (badIs : bad ≡ firstUnpaired (take n row)) where
-      stand : standForUnits os ≡ true
-      stand = sym standsIs ∙ not-false stands yes
-
-      bad-is : bad ≡ firstUnpaired (unitsOf os)
-      bad-is = badIs ∙ ap firstUnpaired (units-front os old row n s)
-
-      pub octets-unpaired : bad < n → (r : PointsAnswer) → r ≡ Error NotWellFormed 0 → OctetsAnswered r buffer
-      unfolding octetsOutcome refusedIf numberOf
-      octets-unpaired h r e =
-          let b = bad-is in
-          let k = s .0 in
-          octets-refusal NotWellFormed r e (simp (stand, ne-eqb (firstUnpaired (unitsOf os)) (length (unitsOf os)) (λ q. omega arith)))
-
-      -- and no surrogate is unpaired
-      module _ (none : n ≤ bad) (ldh : Bool) (ldhIs : ldh ≡ isAllLdh (take n row)) where
-        paired : eqb (firstUnpaired (unitsOf os)) (length (unitsOf os)) ≡ true
-        unfolding firstUnpaired
-        paired =
-            let b = bad-is in
-            let k = s .0 in
-            eq-eqb (firstUnpaired (unitsOf os)) (length (unitsOf os)) (omega (arith, first-le (length (unitsOf os)) (unpairedAt 0 (unitsOf os))))
-
-        ldh-is : ldh ≡ isAllLdh (unitsOf os)
-        ldh-is = ldhIs ∙ ap isAllLdh (units-front os old row n s)
-
-        pub octets-ldh : ldh ≡ true → (r : PointsAnswer) → r ≡ Error AllLdh 0 → OctetsAnswered r buffer
-        unfolding octetsOutcome refusedIf numberOf
-        octets-ldh h r e = octets-refusal AllLdh r e (simp (stand, paired, sym ldh-is ∙ h))
-
-        points-same : ldh ≡ false → n ≤ length buffer → toPointsOutcome row n (length buffer) ≡ octetsOutcome os
-        unfolding toPointsOutcome octetsOutcome refusedIf
-        points-same h room =
-            all-done (length row) n n (length buffer) (firstUnpaired (take n row)) 10 _ (units-within os old row n s) room bad badIs none (length (toPoints (take n row))) refl
-            ∙ rw (units-front os old row n s) (simp (stand, paired, sym ldh-is ∙ h))
-
-        pub octets-done : ldh ≡ false → (length os ≤ 36) × (63 ≤ length buffer) → (r : PointsAnswer) (left : List ℕ)
-            → Answered (toPointsOutcome row n (length buffer)) (toPoints (take n row)) buffer r left → OctetsAnswered r left
-        octets-done h room r left a =
-            let same = points-same h (omega (arith, s .0, units-le os)) in
-            (a .0 ∙ same, a .1 ∙ rw (same, units-front os old row n s))
-
--- the errors of the Base32 reader
-
--- by the number alone: 7, or another
-abbrev byNumber : ℕ → ℕ → Outcome
-byNumber number position = pick (eqb number 7) (refused 7 (4 + position)) (refused 9 0)
-
--- so it is by the code, whose number is one more than its place among all
-code-is : (code : ErrorCode) (position : ℕ) → (errorAfterPrefix code position ≡ byNumber (numberOf code) position) × (numberOf code ≡ suc (tagOf the-type code))
-unfolding numberOf errorAfterPrefix
-code-is Capacity position = (refl, refl)
-code-is Empty position = (refl, refl)
-code-is TooLong position = (refl, refl)
-code-is NotAPoint position = (refl, refl)
-code-is EdgeHyphen position = (refl, refl)
-code-is AllLdh position = (refl, refl)
-code-is OutsideAlphabet position = (refl, refl)
-code-is NoPrefix position = (refl, refl)
-code-is NotWellFormed position = (refl, refl)
-code-is UnpairedSurrogate position = (refl, refl)
-code-is UnknownScheme position = (refl, refl)
-code-is OddByteCount position = (refl, refl)
-code-is Truncated position = (refl, refl)
-code-is Malformed position = (refl, refl)
-
--- all places but that of 7
+-- every error of the Base32 reader but that of a byte outside the alphabet, by their places among all
 abbrev otherCodes : List ℕ
 otherCodes = 0 ∷ 1 ∷ 2 ∷ 3 ∷ 4 ∷ 5 ∷ 7 ∷ 8 ∷ 9 ∷ 10 ∷ 11 ∷ 12 ∷ 13 ∷ []
 
 pub other-error : (code : ErrorCode) (position : ℕ) → OneOf otherCodes (tagOf the-type code) → (r : PointsAnswer) → r ≡ Error NotWellFormed 0
-    → pointsOutcome r ≡ errorAfterPrefix code position
-unfolding pointsOutcome numberOf
+    → pointsOutcome r ≡ errorAfterPrefix (numberOf code) position
+unfolding pointsOutcome numberOf errorAfterPrefix
 other-error code position o r e =
     let t : tagOf the-type code ≡ 6 → ⊥ = λ q. miss otherCodes 6 tt (rw q at o) in
-    ap pointsOutcome e ∙ sym (code-is code position .0 ∙ rw (ne-eqb (numberOf code) 7 (λ q. t (omega (arith, code-is code position .1)))))
+    ap pointsOutcome e ∙ sym (rw (ne-eqb (numberOf code) 7 (λ q. t (omega (arith, number-place code .0)))))
 
 -- what follows the prefix, as the Base32 reader sees it
 abbrev lent : List ℕ → List ℕ
@@ -372,77 +279,48 @@ module _ (l : List ℕ) (short : length l ≤ 63) (answer : BytesAnswer) (answer
 -- what follows the prefix: the Base32 reader's outcome decides, and after it the octets'
 unfoldable afterReading : Outcome → Outcome → Outcome
 afterReading (done n) next = next
-afterReading (refused number position) next = byNumber number position
+afterReading (refused number position) next = errorAfterPrefix number position
 
--- the returns of `decode`
+-- the tests after the prefix are those of the Base32 reader, and then those of the octets
+after-prefix : (l : List ℕ) → length l ≤ 63
+    → refusedIf (ltb (firstOutside lace (afterPrefix l)) (length (afterPrefix l))) 7 (4 + firstOutside lace (afterPrefix l))
+    (refusedIf (not (isReadable l)) 9 0
+    (refusedIf (isAllLdh (labelUnits l)) 6 0
+    (done (length (textOf l)))))
+    ≡ afterReading (base32.decodeOutcome (afterPrefix l) 36) (octetsOutcome (labelOctets l))
+unfolding base32.decodeOutcome refusedIf octetsOutcome isReadable both afterReading errorAfterPrefix labelUnits textOf
+after-prefix l short =
+    let cs = afterPrefix l in
+    let os = labelOctets l in
+    simp (le-ltb 36 (octetCount (length cs)) (omega (arith, length-drop 4 l)))
+    (cases (ltb (firstOutside lace cs) (length cs)) (λ e. simp e)
+    (λ e. cases (isLawful (valuesOf lace cs))
+    (λ f. cases (standForUnits os) (λ g. simp (e, f, g)) (λ g. simp (e, f, g)))
+    (λ f. simp (e, f))))
 
-module _ (buffer l : List ℕ) where
-  abbrev LabelAnswered : PointsAnswer → List ℕ → Type 0
-  LabelAnswered = Answered (decodeOutcome isAllLdh (length buffer) l) (textOf l) buffer
+-- the returns of `decode` for a label of 1 to 63 bytes that begins with the prefix, by the Base32 reader's answer
+module _ (buffer l : List ℕ) (checked : LabelPassed (length buffer) (length l)) (has : Bool) (hasIs : has ≡ hasPrefix l) (yes : not has ≡ false)
+    (answer : BytesAnswer) (answerIs : bytesOutcome answer ≡ base32.decodeOutcome (lent l) 36) where
+  abbrev Answered : PointsAnswer → List ℕ → Type 0
+  Answered r left = (pointsOutcome r ≡ decodeOutcome isAllLdh (length buffer) l) × (left ≡ bufferAfter (decodeOutcome isAllLdh (length buffer) l) (textOf l) buffer)
 
-  label-refusal : (code : ErrorCode) (r : PointsAnswer) → r ≡ Error code 0 → decodeOutcome isAllLdh (length buffer) l ≡ refused (numberOf code) 0 → LabelAnswered r buffer
-  label-refusal code r e o = refusal (decodeOutcome isAllLdh (length buffer) l) (textOf l) buffer code 0 r e o
+  decode-after : decodeOutcome isAllLdh (length buffer) l ≡ afterReading (base32.decodeOutcome (afterPrefix l) 36) (octetsOutcome (labelOctets l))
+  unfolding decodeOutcome
+  decode-after = label-passes _ _ _ checked ∙ pass-told _ _ _ _ _ (ap not hasIs) yes ∙ after-prefix l (checked .short)
 
-  pub answer-1 : length buffer < 63 → (r : PointsAnswer) → r ≡ Error Capacity 0 → LabelAnswered r buffer
-  unfolding decodeOutcome refusedIf numberOf
-  answer-1 h r e = label-refusal Capacity r e (simp (lt-ltb (length buffer) 63 h))
+  pub answer-error : (code : ErrorCode) (position : ℕ) → answer ≡ bytes.Error code position → (r : PointsAnswer) → pointsOutcome r ≡ errorAfterPrefix (numberOf code) position
+      → Answered r buffer
+  unfolding afterReading bufferAfter errorAfterPrefix
+  answer-error code position e r a =
+      let o : decodeOutcome isAllLdh (length buffer) l ≡ errorAfterPrefix (numberOf code) position = decode-after ∙ rw (error-is l (checked .short) answer answerIs code position e) in
+      (a ∙ sym o, rw o (cases (eqb (numberOf code) 7) (λ t. rw t) (λ t. rw t)))
 
-  pub answer-2 : 63 ≤ length buffer → length l ≡ 0 → (r : PointsAnswer) → r ≡ Error Empty 0 → LabelAnswered r buffer
-  unfolding decodeOutcome refusedIf numberOf
-  answer-2 b h r e = label-refusal Empty r e (simp (le-ltb _ _ b, eq-eqb _ _ h))
-
-  pub answer-3 : 63 ≤ length buffer → (length l ≡ 0 → ⊥) → 63 < length l → (r : PointsAnswer) → r ≡ Error TooLong 0 → LabelAnswered r buffer
-  unfolding decodeOutcome refusedIf numberOf
-  answer-3 b n h r e = label-refusal TooLong r e (simp (le-ltb _ _ b, ne-eqb _ _ n, lt-ltb _ _ h))
-
-  -- the buffer has room, and the label has 1 to 63 bytes
-  module _ (sized : (63 ≤ length buffer) × (0 < length l) × (length l ≤ 63)) (has : Bool) (hasIs : has ≡ hasPrefix l) where
-    room : ltb (length buffer) 63 ≡ false
-    room = le-ltb _ _ (sized .0)
-
-    some : eqb (length l) 0 ≡ false
-    some = ne-eqb (length l) 0 (λ e. omega arith)
-
-    short : ltb 63 (length l) ≡ false
-    short = le-ltb _ _ (sized .2)
-
-    pub answer-8 : not has ≡ true → (r : PointsAnswer) → r ≡ Error NoPrefix 0 → LabelAnswered r buffer
-    unfolding decodeOutcome refusedIf numberOf
-    answer-8 n r e = label-refusal NoPrefix r e (simp (room, some, short, sym hasIs ∙ not-true has n))
-
-    -- and begins with the prefix
-    module _ (yes : not has ≡ false) where
-      marked : hasPrefix l ≡ true
-      marked = sym hasIs ∙ not-false has yes
-
-      few : octetCount (length (afterPrefix l)) ≤ 36
-      few = let h : length l ≤ 63 = sized .2 in omega (arith, length-drop 4 l)
-
-      decode-after : decodeOutcome isAllLdh (length buffer) l ≡ afterReading (base32.decodeOutcome (afterPrefix l) 36) (octetsOutcome (labelOctets l))
-      unfolding decodeOutcome base32.decodeOutcome refusedIf octetsOutcome isReadable both afterReading labelUnits textOf
-      decode-after =
-          let cs = afterPrefix l in
-          let os = labelOctets l in
-          simp (room, some, short, marked, le-ltb 36 (octetCount (length cs)) few)
-          (cases (ltb (firstOutside lace cs) (length cs)) (λ e. simp e)
-          (λ e. cases (isLawful (valuesOf lace cs))
-          (λ f. cases (standForUnits os) (λ g. simp (e, f, g)) (λ g. simp (e, f, g)))
-          (λ f. simp (e, f))))
-
-      -- by the Base32 reader's answer
-      module _ (answer : BytesAnswer) (answerIs : bytesOutcome answer ≡ base32.decodeOutcome (lent l) 36) where
-        pub answer-error : (code : ErrorCode) (position : ℕ) → answer ≡ bytes.Error code position → (r : PointsAnswer) → pointsOutcome r ≡ errorAfterPrefix code position
-            → LabelAnswered r buffer
-        unfolding afterReading bufferAfter
-        answer-error code position e r a =
-            let o : decodeOutcome isAllLdh (length buffer) l ≡ byNumber (numberOf code) position = decode-after ∙ rw (error-is l (sized .2) answer answerIs code position e) in
-            (a ∙ code-is code position .0 ∙ sym o, rw o (cases (eqb (numberOf code) 7) (λ t. rw t) (λ t. rw t)))
-
-        pub answer-octets : (count : ByteCount) → answer ≡ bytes.Bytes count → (row old : List ℕ)
-            → row ≡ bufferAfter (base32.decodeOutcome (lent l) 36) (toOctets (valuesOf lace (lent l))) old
-            → (r : PointsAnswer) (left : List ℕ) → Answered (octetsOutcome (take (count .0) row)) (toPoints (unitsOf (take (count .0) row))) buffer r left
-            → LabelAnswered r left
-        unfolding afterReading textOf labelUnits
-        answer-octets count e row old rowIs r left a =
-            let o : decodeOutcome isAllLdh (length buffer) l ≡ octetsOutcome (labelOctets l) = decode-after ∙ rw (count-is l (sized .2) answer answerIs count e) in
-            rw o (rw (octets-front l (sized .2) answer answerIs count e row old rowIs) at a)
+  pub answer-octets : (count : ByteCount) → answer ≡ bytes.Bytes count → (row old : List ℕ)
+      → row ≡ bufferAfter (base32.decodeOutcome (lent l) 36) (toOctets (valuesOf lace (lent l))) old
+      → (r : PointsAnswer) (left : List ℕ)
+      → (pointsOutcome r ≡ octetsOutcome (take (count .0) row)) × (left ≡ bufferAfter (octetsOutcome (take (count .0) row)) (toPoints (unitsOf (take (count .0) row))) buffer)
+      → Answered r left
+  unfolding afterReading textOf labelUnits
+  answer-octets count e row old rowIs r left a =
+      handed-leaves _ _ _ _ _ buffer left (decode-after ∙ rw (count-is l (checked .short) answer answerIs count e)) refl
+      (rw (octets-front l (checked .short) answer answerIs count e row old rowIs) at a)

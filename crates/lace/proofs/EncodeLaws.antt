@@ -1,37 +1,39 @@
--- What writing a label needs: the turns of the loops, the octets and the label put together, and the returns of `encode`.
+-- What writing a label needs: the turns of the loops, the octets and the label put together, and the units of a text.
 use Prim.Native.Nat.{ℕ, suc, _+_, _-_, _*_, _/_, _%_, _≤_, _<_}
 use mathlib.Core.Path.{_≡_, refl, sym, ap, _∙_}
-use mathlib.Core.Bool.{Bool, true, false}
-use mathlib.Core.List.{List, [], _∷_, _++_, append-assoc}
-use lib.Dec.{eqb}
-use lib.ListN.{length, take, drop, set, length-drop, drop-of-length-le}
-use lib.Seq.{sets, take-length, drop-cons, drop-drop}
+use mathlib.Core.List.{List, [], _∷_, _++_}
+use lib.Dec.{eqb, ltb}
+use lib.ListN.{length, take, drop, set, length-append, length-drop, drop-of-length-le}
+use lib.Seq.{sets, take-length, drop-cons}
 use borrow.Author.Tests.{eq-eqb, ne-eqb, le-leb, lt-leb, lt-ltb, le-ltb}
 use native.Mathlib.Numerals.{add-one}
 use native.Mathlib.Omega.{arith}
 use Rattle.basis.specs.Rows.{at, AllBelow}
-use Rattle.basis.specs.Outcome.{Outcome, done, refused, refusedIf, bufferAfter}
+use Rattle.basis.specs.Outcome.{Outcome, done, refused, refusedIf, countOf, bufferAfter}
 use Rattle.basis.proofs.Tests.{cases, by-lt}
 use Rattle.basis.proofs.Lists.{sets-front}
 use Rattle.basis.proofs.Stores.{Storing, storing-more, storing-none}
-use Rattle.basis.proofs.Parts.{lent-is, lent-back, front-is, front-fits, front-long}
+use Rattle.basis.proofs.Parts.{lent-is, lent-filled, front-is, front-fits, front-long}
 use Rattle.basis.proofs.Outcome.{refusal-leaves, done-leaves, done-not-refused, done-count}
 use Rattle.utf16.specs.Points.{firstNotPoint}
 use Rattle.utf16.specs.Units.{toUnits}
 use Rattle.utf16.specs.Answer.{toUnitsOutcome}
-use Rattle.utf16.proofs.Refusals.{all-done}
+use Rattle.utf16.proofs.Refusals as utf16-laws
 use Rattle.utf16.proofs.RoundTrip.{some-toUnits}
+use Rattle.wire.specs.Bytes.{toBytes}
+use Rattle.wire.specs.Answer.{toBytesOutcome}
+use Rattle.wire.proofs.RoundTrip.{length-toBytes}
+use Rattle.wire.proofs.Refusals.{bytes-done}
 use Rattle.base32.specs.Alphabet.{lace}
 use Rattle.base32.specs.Base32.{quintetCount, charactersOf}
 use Rattle.base32.specs.Answer as base32
 use Rattle.base32.proofs.Values.{length-charactersOf}
 use Rattle.base32.proofs.Outcomes.{encode-done}
 use Rattle.lace.specs.Prefix.{prefix}
-use Rattle.lace.specs.Octets.{unitOctets, runCount, isAllLdh}
+use Rattle.lace.specs.Octets.{runCount}
 use Rattle.lace.specs.Encoding.{octetsOf, labelOf}
 use Rattle.lace.specs.Stepping.{sameHigh, runStep, runSteps, unitsOutcome}
-use Rattle.lace.specs.Answer.{encodeOutcome}
-use Rattle.lace.proofs.Runs.{runs-count, runs-steps, length-unitOctets, units-few}
+use Rattle.lace.proofs.Runs.{runs-count, runs-steps, units-few}
 
 -- the units of one high octet from index i on: one more, another, none left
 module _ (high : ℕ) (us : List ℕ) (i n all : ℕ) (inv : all ≡ n + sameHigh high (drop i us)) where
@@ -85,25 +87,34 @@ module _ (old us now : List ℕ) (before k i : ℕ) (s : Storing old (runSteps 2
       let e : runSteps before (drop i us) ≡ [] = rw (drop-of-length-le us h) in
       storing-none _ _ _ _ _ s e (omega (arith, s .count, ap length e))
 
--- all units from index i on: one is stored, or none is left
-module _ (us now all : List ℕ) (i : ℕ) (inv : sets now (2 * i + 1) (unitOctets (drop i us)) ≡ all) where
-  pub all-turn : i < length us → sets (set (set now (2 * i + 1) (at us i / 256)) (2 * i + 2) (at us i % 256)) (2 * (i + 1) + 1) (unitOctets (drop (i + 1) us)) ≡ all
-  unfolding unitOctets
-  all-turn h =
-      let a : 2 * (i + 1) + 1 ≡ suc (suc (2 * i + 1)) = omega arith in
-      let b : 2 * i + 2 ≡ suc (2 * i + 1) = omega arith in
-      rw (a, b, add-one i) (rw (drop-cons us i 0 h) at inv)
+-- FF is stored first, and the rest is lent to the writer of bytes
+module _ (us old : List ℕ) (fits : 2 * length us + 1 ≤ length old) where
+  abbrev behindFF : List ℕ
+  behindFF = take (length (set old 0 255) - 1) (drop 1 (set old 0 255))
 
-  pub all-end : length us ≤ i → now ≡ all
-  unfolding unitOctets
-  all-end h = rw (drop-of-length-le us h) at inv
+  begun : set old 0 255 ≡ (255 ∷ []) ++ drop 1 old
+  begun = sets-front (255 ∷ []) old (omega arith)
 
--- all of them, after FF
-pub all-stored : (us now old : List ℕ) → 2 * length us + 1 ≤ length old → now ≡ sets old 0 (0xff ∷ unitOctets us)
-    → now ≡ (0xff ∷ unitOctets us) ++ drop (2 * length us + 1) old
-all-stored us now old h e =
-    let n : length (0xff ∷ unitOctets us) ≡ 2 * length us + 1 = omega (arith, length-unitOctets us) in
-    e ∙ sets-front (0xff ∷ unitOctets us) old (omega arith) ∙ ap (λ (k : ℕ). (0xff ∷ unitOctets us) ++ drop k old) n
+  all-done : toBytesOutcome us (length us) (length behindFF) ≡ done (2 * length us)
+  all-done =
+      let lent = lent-is 1 (255 ∷ []) (drop 1 old) (set old 0 255) refl begun in
+      bytes-done us (length us) (length behindFF) (omega arith) (omega (arith, ap length lent, length-drop 1 old)) (2 * length us) (rw take-length (sym (length-toBytes us)))
+
+  pub all-counted : (answer : Outcome) (n : ℕ) → answer ≡ toBytesOutcome us (length us) (length behindFF) → n ≡ countOf answer → n ≡ 2 * length us
+  unfolding countOf
+  all-counted answer n a e = e ∙ ap countOf (a ∙ all-done)
+
+  pub all-stored : (part : List ℕ) → part ≡ bufferAfter (toBytesOutcome us (length us) (length behindFF)) (toBytes (take (length us) us)) behindFF
+      → take 1 (set old 0 255) ++ (part ++ drop (length (set old 0 255) - 1) (drop 1 (set old 0 255))) ≡ (0xff ∷ toBytes us) ++ drop (2 * length us + 1) old
+  unfolding bufferAfter
+  all-stored part e =
+      let k : 1 + 2 * length us ≡ 2 * length us + 1 = omega arith in
+      lent-filled 1 (2 * length us) (255 ∷ []) (toBytes us) old (set old 0 255) refl begun part (e ∙ rw (all-done, take-length))
+      ∙ ap (λ (n : ℕ). (0xff ∷ toBytes us) ++ drop n old) k
+
+  pub all-long : (now : List ℕ) → now ≡ (0xff ∷ toBytes us) ++ drop (2 * length us + 1) old → length now ≡ length old
+  all-long now e =
+      omega (arith, ap length e, length-append (0xff ∷ toBytes us) (drop (2 * length us + 1) old), length-drop (2 * length us + 1) old, length-toBytes us)
 
 -- the octets of units are those of their runs, or FF and all units
 module _ (us : List ℕ) (r : ℕ) (count : r ≡ runCount us) (n : ℕ) (now old : List ℕ) where
@@ -116,33 +127,32 @@ module _ (us : List ℕ) (r : ℕ) (count : r ≡ runCount us) (n : ℕ) (now ol
       let e : runSteps 256 us ≡ octetsOf us = runs-steps us b ∙ rw (runs-count, ← count, le-leb (2 * r + length us) (2 * length us) h) in
       rw (← e) p
 
-  pub octets-all : 2 * length us < 2 * r + length us → n ≡ 2 * length us + 1 → now ≡ (0xff ∷ unitOctets us) ++ drop (2 * length us + 1) old → Put (octetsOf us)
+  pub octets-all : 2 * length us < 2 * r + length us → n ≡ 2 * length us + 1 → now ≡ (0xff ∷ toBytes us) ++ drop (2 * length us + 1) old → Put (octetsOf us)
   unfolding octetsOf
   octets-all h p q =
-      let e : 0xff ∷ unitOctets us ≡ octetsOf us = rw (runs-count, ← count, lt-leb (2 * r + length us) (2 * length us) h) in
-      let l : 2 * length us + 1 ≡ length (0xff ∷ unitOctets us) = omega (arith, length-unitOctets us) in
-      rw (← e) (p ∙ l, q ∙ ap (λ (k : ℕ). (0xff ∷ unitOctets us) ++ drop k old) l)
+      let e : 0xff ∷ toBytes us ≡ octetsOf us = rw (runs-count, ← count, lt-leb (2 * r + length us) (2 * length us) h) in
+      let l : 2 * length us + 1 ≡ length (0xff ∷ toBytes us) = omega (arith, length-toBytes us) in
+      rw (← e) (p ∙ l, q ∙ ap (λ (k : ℕ). (0xff ∷ toBytes us) ++ drop k old) l)
 
 -- the label put together: now is the label after the prefix was stored, whose rest is lent to the Base32 writer
 module _ (octets label now : List ℕ) (fits : 4 + quintetCount (length octets) ≤ length label) (begun : now ≡ prefix ++ drop 4 label) where
   abbrev lent : List ℕ
   lent = take (length now - 4) (drop 4 now)
 
-  rest-lent : lent ≡ drop 4 label
+  label-done : base32.encodeOutcome octets (length lent) ≡ done (quintetCount (length octets))
   unfolding prefix
-  rest-lent = lent-is 4 prefix (drop 4 label) now refl begun
+  label-done =
+      let is = lent-is 4 prefix (drop 4 label) now refl begun in
+      encode-done octets (length lent) (quintetCount (length octets)) refl (omega (arith, ap length is, length-drop 4 label))
 
-  pub label-written : base32.encodeOutcome octets (length lent) ≡ done (quintetCount (length octets))
-  label-written = encode-done octets (length lent) (quintetCount (length octets)) refl (omega (arith, ap length rest-lent, length-drop 4 label))
+  pub label-counted : (answer : Outcome) (n : ℕ) → answer ≡ base32.encodeOutcome octets (length lent) → n ≡ countOf answer → n ≡ quintetCount (length octets)
+  unfolding countOf
+  label-counted answer n a e = e ∙ ap countOf (a ∙ label-done)
 
   pub label-stored : (part : List ℕ) → part ≡ bufferAfter (base32.encodeOutcome octets (length lent)) (charactersOf lace octets) lent
       → take 4 now ++ (part ++ drop (length now - 4) (drop 4 now)) ≡ (prefix ++ charactersOf lace octets) ++ drop (4 + quintetCount (length octets)) label
   unfolding prefix bufferAfter
-  label-stored part e =
-      let q = quintetCount (length octets) in
-      lent-back 4 prefix (drop 4 label) now refl begun part (λ (l : List ℕ). charactersOf lace octets ++ drop q l) (e ∙ rw label-written)
-      ∙ ap (λ (l : List ℕ). prefix ++ (charactersOf lace octets ++ l)) (drop-drop q 4 label)
-      ∙ sym (append-assoc prefix (charactersOf lace octets) (drop (4 + q) label))
+  label-stored part e = lent-filled 4 (quintetCount (length octets)) prefix (charactersOf lace octets) label now refl begun part (e ∙ rw label-done)
 
 -- the length of a label, by its octets
 pub length-label : (t : List ℕ) → length (labelOf t) ≡ 4 + quintetCount (length (octetsOf (toUnits t)))
@@ -193,11 +203,11 @@ pub record Converted (t : List ℕ) (answer : Outcome) (now : List ℕ) : Type 0
   pub leaves : now ≡ toUnits t ++ rest
 
 -- so it is with a text of at most 34 points
-pub converts : (t : List ℕ) (k : ℕ) → k ≡ firstNotPoint t → length t ≤ k → length t ≤ 34
+pub converts : (t : List ℕ) → firstNotPoint t ≡ length t → length t ≤ 34
     → (answer : Outcome) (capacity : ℕ) → answer ≡ toUnitsOutcome t (length t) capacity → 68 ≤ capacity
     → (now buffer : List ℕ) → now ≡ bufferAfter (toUnitsOutcome t (length t) capacity) (toUnits (take (length t) t)) buffer → Converted t answer now
 unfolding bufferAfter toUnitsOutcome
-converts t k first points few answer capacity is room now buffer left = record {
+converts t points few answer capacity is room now buffer left = record {
   rest = drop (length (toUnits t)) buffer;
   counts = is ∙ complete;
   leaves = left ∙ rw (complete, take-length);
@@ -205,8 +215,8 @@ converts t k first points few answer capacity is room now buffer left = record {
   where
     complete : toUnitsOutcome t (length t) capacity ≡ done (length (toUnits t))
     complete =
-        all-done (length t) (length t) (2 * length t) capacity (firstNotPoint (take (length t) t)) 4 (length (toUnits (take (length t) t)))
-        (omega arith) (omega arith) k (first ∙ rw take-length) points (length (toUnits t)) (rw take-length)
+        utf16-laws.all-done (length t) (length t) (2 * length t) capacity (firstNotPoint (take (length t) t)) 4 (length (toUnits (take (length t) t)))
+        (omega arith) (omega arith) (length t) (rw take-length (sym points)) (omega arith) (length (toUnits t)) (rw take-length)
 
 module _ {t : List ℕ} {answer : Outcome} {now : List ℕ} (v : Converted t answer now) where
   pub not-refused : {number position : ℕ} → answer ≡ refused number position → ⊥
@@ -225,48 +235,15 @@ module _ {t : List ℕ} {answer : Outcome} {now : List ℕ} (v : Converted t ans
     pub units-some : (length t ≡ 0 → ⊥) → 1 ≤ length (take n now)
     units-some some = let u = some-toUnits t in rw units-are (by-lt 0 (length t) (λ h. omega arith) (λ h. absurd (some (omega arith))))
 
--- the returns of `encode`: the answer and the buffer, from the tests passed so far
-module _ (label t : List ℕ) where
-  abbrev Answered : Outcome → List ℕ → Type 0
-  Answered answer now =
-      (answer ≡ encodeOutcome isAllLdh (length label) t) × (now ≡ bufferAfter (encodeOutcome isAllLdh (length label) t) (labelOf t) label)
+-- what is left of the tests on a text is what is answered for its units
+pub by-units : (t us : List ℕ) → us ≡ toUnits t → refusedIf (ltb 63 (length (labelOf t))) 3 0 (done (length (labelOf t))) ≡ unitsOutcome us
+unfolding unitsOutcome
+by-units t us e = rw (e, length-label t)
 
-  pub encode-1 : length label < 63 → (answer : Outcome) → answer ≡ refused 1 0 → Answered answer label
-  unfolding encodeOutcome refusedIf
-  encode-1 h answer e = refusal-leaves _ answer _ label 1 0 e (simp (lt-ltb (length label) 63 h))
+pub label-is : (t us : List ℕ) → us ≡ toUnits t → labelOf t ≡ prefix ++ charactersOf lace (octetsOf us)
+unfolding labelOf
+label-is t us e = rw e
 
-  module _ (fits : 63 ≤ length label) where
-    pub encode-2 : length t ≡ 0 → (answer : Outcome) → answer ≡ refused 2 0 → Answered answer label
-    unfolding encodeOutcome refusedIf
-    encode-2 h answer e = refusal-leaves _ answer _ label 2 0 e (simp (le-ltb (length label) 63 fits, eq-eqb (length t) 0 h))
-
-    module _ (some : length t ≡ 0 → ⊥) (k : ℕ) (first : k ≡ firstNotPoint t) where
-      pub encode-4 : k < length t → (answer : Outcome) → answer ≡ refused 4 k → Answered answer label
-      unfolding encodeOutcome refusedIf
-      encode-4 h answer e =
-          refusal-leaves _ answer _ label 4 k e
-          (rw (← first) (simp (le-ltb (length label) 63 fits, ne-eqb (length t) 0 some, lt-ltb k (length t) h)))
-
-      module _ (points : length t ≤ k) (ldh : Bool) (all : ldh ≡ isAllLdh t) where
-        pub encode-6 : ldh ≡ true → (answer : Outcome) → answer ≡ refused 6 0 → Answered answer label
-        unfolding encodeOutcome refusedIf
-        encode-6 h answer e =
-            refusal-leaves _ answer _ label 6 0 e
-            (rw (← first, ← all) (simp (le-ltb (length label) 63 fits, ne-eqb (length t) 0 some, le-ltb k (length t) points, h)))
-
-        module _ (other : ldh ≡ false) where
-          -- what is left is what is answered for the units
-          last-test : encodeOutcome isAllLdh (length label) t ≡ unitsOutcome (toUnits t)
-          unfolding encodeOutcome refusedIf unitsOutcome
-          last-test =
-              rw (← first, ← all, ← length-label t)
-              (simp (le-ltb (length label) 63 fits, ne-eqb (length t) 0 some, le-ltb k (length t) points, other))
-
-          pub encode-3 : 34 < length t → (answer : Outcome) → answer ≡ refused 3 0 → Answered answer label
-          encode-3 h answer e =
-              let u = some-toUnits t in
-              refusal-leaves _ answer _ label 3 0 e (last-test ∙ octets-long (toUnits t) (omega (arith, units-few (toUnits t) (omega arith))))
-
-          pub encode-units : (us : List ℕ) → us ≡ toUnits t → (answer : Outcome) (now : List ℕ) → UnitsAnswered us label answer now → Answered answer now
-          unfolding labelOf
-          encode-units us e answer now a = rw (last-test, ← e) a
+-- the label of more than 34 points is too long
+pub text-long : (t : List ℕ) → 34 < length t → 63 < length (labelOf t)
+text-long t h = omega (arith, some-toUnits t, units-few (toUnits t) (omega (arith, some-toUnits t)), length-label t)

@@ -1,30 +1,14 @@
--- What the scans of a row need: LDH, and the changes of high octet.
+-- What the count of runs needs: the changes of high octet between neighbours.
 use Prim.Native.Nat.{ℕ, _+_, _-_, _/_, _≤_, _<_}
-use mathlib.Core.Path.{_≡_, refl, sym, ap, _∙_}
-use mathlib.Core.Bool.{Bool, true, false, not}
+use mathlib.Core.Path.{_≡_, refl, ap}
 use mathlib.Core.List.{List, [], _∷_}
 use lib.ListN.{length, drop, drop-of-length-le}
 use lib.Seq.{drop-cons}
-use borrow.Author.Tests.{eq-eqb, ne-eqb, not-true, not-false}
+use borrow.Author.Tests.{eq-eqb, ne-eqb}
 use native.Mathlib.Numerals.{add-one}
 use native.Mathlib.Omega.{arith}
 use Rattle.basis.specs.Rows.{at}
-use Rattle.basis.proofs.Tests.{each-at, not-each}
-use Rattle.utf16.specs.Points.{isLdh}
-use Rattle.lace.specs.Octets.{changeBetween, changes, runCount, isAllLdh}
-
--- a number that is not LDH is found, or none is
-module _ (xs : List ℕ) (i : ℕ) where
-  pub ldh-not : i < length xs → (found : Bool) → found ≡ isLdh (at xs i) → not found ≡ true → false ≡ isAllLdh xs
-  unfolding isAllLdh
-  ldh-not h found e n = sym (not-each (length xs) (λ k. isLdh (at xs k)) i h (sym e ∙ not-true found n))
-
-  pub ldh-all : length xs ≤ i → i ≤ length xs → ((k : ℕ) → k < i → isLdh (at xs k) ≡ true) → true ≡ isAllLdh xs
-  unfolding isAllLdh
-  ldh-all h g each = sym (each-at (length xs) (λ k. isLdh (at xs k)) (λ k l. each k (omega arith)))
-
-pub ldh-passed : (x : ℕ) (found : Bool) → found ≡ isLdh x → not found ≡ false → isLdh x ≡ true
-ldh-passed x found e n = sym e ∙ not-false found n
+use Rattle.lace.specs.Octets.{changeBetween, changes, runCount}
 
 -- two neighbours
 pub change-none : (before u : ℕ) → before / 256 ≡ u / 256 → 0 ≡ changeBetween before u

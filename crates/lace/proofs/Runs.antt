@@ -10,7 +10,9 @@ use Rattle.basis.specs.Tests.{pick}
 use Rattle.basis.specs.Rows.{AllBelow}
 use Rattle.basis.proofs.Tests.{cases}
 use Rattle.basis.proofs.Lists.{below-none, below-more, below-tail}
-use Rattle.lace.specs.Octets.{unitOf, Run, run, runUnits, runOctets, unitOctets, changeBetween, changes, runCount}
+use Rattle.wire.specs.Bytes.{toBytes}
+use Rattle.wire.proofs.RoundTrip.{length-toBytes, bytes-below}
+use Rattle.lace.specs.Octets.{unitOf, Run, run, runUnits, runOctets, changeBetween, changes, runCount}
 use Rattle.lace.specs.Encoding.{joinRun, longestRuns, octetsOf}
 use Rattle.lace.specs.Stepping.{sameHigh, runStep, runSteps}
 
@@ -94,18 +96,13 @@ runs-steps (u ∷ us) b =
     let h = b 0 (omega arith) in
     steps-left 256 (u ∷ us) ∙ rw (join-is u (longestRuns us)) (rw (ne-eqb 256 (u / 256) (λ e. omega arith)))
 
--- how many octets the runs have, and all units
+-- how many octets the runs have
 pub length-runOctets : (rs : List Run) → length (runOctets rs) ≡ 2 * length rs + length (runUnits rs)
 unfolding runOctets runUnits
 length-runOctets [] = refl
 length-runOctets (run high lows ∷ rs) =
     let i = length-runOctets rs in
     omega (arith, length-append lows (runOctets rs), length-append (map (unitOf high) lows) (runUnits rs), length-map lows (unitOf high))
-
-pub length-unitOctets : (us : List ℕ) → length (unitOctets us) ≡ 2 * length us
-unfolding unitOctets
-length-unitOctets [] = refl
-length-unitOctets (u ∷ us) = let i = length-unitOctets us in omega arith
 
 -- the octets of n units in r runs number 2r + n or 2n + 1
 pub octets-number : (us : List ℕ) → length (octetsOf us) ≡ pick (leb (2 * runCount us + length us) (2 * length us)) (2 * runCount us + length us) (2 * length us + 1)
@@ -114,7 +111,7 @@ octets-number us =
     rw runs-count
     (cases (leb (2 * runCount us + length us) (2 * length us))
     (λ e. rw e (length-runOctets (longestRuns us) ∙ rw (runs-count, runs-join)))
-    (λ e. rw e (let l = length-unitOctets us in omega arith)))
+    (λ e. rw e (let l = length-toBytes us in omega arith)))
 
 -- two more than the units at least
 pub units-few : (us : List ℕ) → 1 ≤ length us → length us + 2 ≤ length (octetsOf us)
@@ -136,29 +133,22 @@ unfolding lowsUnder runsAfter runOctets
 parted-below h [] b = b
 parted-below h (run high lows ∷ rs) b = cases (eqb h high) (λ e. rw e (λ i k. b (suc (suc i)) (omega arith))) (λ e. rw e b)
 
-unit-octets-more : (u : ℕ) (octets : List ℕ) → u < 0x10000 → AllBelow 256 octets → AllBelow 256 (u / 256 ∷ u % 256 ∷ octets)
-unit-octets-more u octets h b =
-    below-more 256 (u / 256) (u % 256 ∷ octets) (omega arith) (below-more 256 (u % 256) octets (omega arith) b)
-
 runs-below : (us : List ℕ) → AllBelow 0x10000 us → length us ≤ 254 → AllBelow 256 (runOctets (longestRuns us))
 unfolding longestRuns runOctets
 runs-below [] b n = below-none 256
 runs-below (u ∷ us) b n =
+    let unit : u < 0x10000 = b 0 (omega arith) in
     let lows = lowsUnder (u / 256) (longestRuns us) in
     let octets = lows ++ runOctets (runsAfter (u / 256) (longestRuns us)) in
     let few : length lows ≤ length us = rw runs-join at (lows-few (u / 256) (longestRuns us)) in
     let below = parted-below (u / 256) (longestRuns us) (runs-below us (below-tail 0x10000 u us b) (omega arith)) in
     rw (join-is u (longestRuns us))
-    (below-more 256 (suc (length lows)) (u / 256 ∷ u % 256 ∷ octets) (omega arith) (unit-octets-more u octets (b 0 (omega arith)) below))
-
-unit-octets-below : (us : List ℕ) → AllBelow 0x10000 us → AllBelow 256 (unitOctets us)
-unfolding unitOctets
-unit-octets-below [] b = below-none 256
-unit-octets-below (u ∷ us) b = unit-octets-more u (unitOctets us) (b 0 (omega arith)) (unit-octets-below us (below-tail 0x10000 u us b))
+    (below-more 256 (suc (length lows)) (u / 256 ∷ u % 256 ∷ octets) (omega arith)
+    (below-more 256 (u / 256) (u % 256 ∷ octets) (omega arith) (below-more 256 (u % 256) octets (omega arith) below)))
 
 pub octets-below : (us : List ℕ) → AllBelow 0x10000 us → length us ≤ 254 → AllBelow 256 (octetsOf us)
 unfolding octetsOf
 octets-below us b n =
     cases (leb (2 * length (longestRuns us) + length us) (2 * length us))
     (λ e. rw e (runs-below us b n))
-    (λ e. rw e (below-more 256 255 (unitOctets us) (omega arith) (unit-octets-below us b)))
+    (λ e. rw e (below-more 256 255 (toBytes us) (omega arith) (bytes-below us b)))

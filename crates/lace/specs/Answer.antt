@@ -2,10 +2,10 @@
 use Prim.Native.Nat.{ℕ, _+_}
 use mathlib.Core.Bool.{Bool, not}
 use mathlib.Core.List.{List}
-use lib.Dec.{eqb, ltb}
+use lib.Dec.{ltb}
 use lib.ListN.{length}
 use Rattle.basis.specs.Outcome.{Outcome, done, refusedIf}
-use Rattle.utf16.specs.Points.{firstNotPoint}
+use Rattle.labels.specs.Tests.{textTests, labelTests}
 use Rattle.base32.specs.Alphabet.{lace}
 use Rattle.base32.specs.Answer.{firstOutside}
 use Rattle.lace.specs.Prefix.{hasPrefix, afterPrefix}
@@ -15,21 +15,17 @@ use Rattle.lace.specs.Decoding.{isReadable, labelUnits, textOf}
 -- encoding a text into a buffer of so many bytes: 1, 2, 4, 6, 3
 unfoldable pub encodeOutcome : (List ℕ → Bool) → ℕ → List ℕ → Outcome
 encodeOutcome reserved capacity t =
-    refusedIf (ltb capacity 63) 1 0
-    (refusedIf (eqb (length t) 0) 2 0
-    (refusedIf (ltb (firstNotPoint t) (length t)) 4 (firstNotPoint t)
+    textTests capacity t
     (refusedIf (reserved t) 6 0
     (refusedIf (ltb 63 (length (labelOf t))) 3 0
-    (done (length (labelOf t)))))))
+    (done (length (labelOf t)))))
 
 -- decoding a label into a buffer of so many points: 1, 2, 3, 8, 7, 9, 6
 unfoldable pub decodeOutcome : (List ℕ → Bool) → ℕ → List ℕ → Outcome
 decodeOutcome reserved capacity l =
-    refusedIf (ltb capacity 63) 1 0
-    (refusedIf (eqb (length l) 0) 2 0
-    (refusedIf (ltb 63 (length l)) 3 0
+    labelTests capacity (length l)
     (refusedIf (not (hasPrefix l)) 8 0
     (refusedIf (ltb (firstOutside lace (afterPrefix l)) (length (afterPrefix l))) 7 (4 + firstOutside lace (afterPrefix l))
     (refusedIf (not (isReadable l)) 9 0
     (refusedIf (reserved (labelUnits l)) 6 0
-    (done (length (textOf l)))))))))
+    (done (length (textOf l)))))))

@@ -10,6 +10,7 @@ use Rattle.utf16.specs.Units.{toPoints, firstUnpaired}
 use Rattle.base32.specs.Alphabet.{lace, valuesOf}
 use Rattle.base32.specs.Form.{isLawful}
 use Rattle.base32.specs.Base32.{toOctets}
+use Rattle.wire.specs.Bytes as wire
 use Rattle.lace.specs.Prefix.{afterPrefix}
 use Rattle.lace.specs.Octets.{unitOf, runCount}
 use Rattle.lace.specs.declared.decoding.Place.{Place}
@@ -52,19 +53,13 @@ unfoldable pub unitsFrom : Place → List ℕ → List ℕ
 unitsFrom place [] = []
 unitsFrom place (x ∷ octets) = unitAt place x (unitsFrom (placeAfter place x) octets)
 
--- the units of octets that are all units, high octet first
-unfoldable pub unitPairs : List ℕ → List ℕ
-unitPairs [] = []
-unitPairs (high ∷ []) = []
-unitPairs (high ∷ low ∷ octets) = unitOf high low ∷ unitPairs octets
-
 -- FF stands first
 abbrev pub beginsFF : List ℕ → Bool
 beginsFF octets = eqb (at octets 0) 0xff
 
--- the units of octets: after FF all units, else runs
+-- the units of octets: after FF all units, high octet first, else runs
 unfoldable pub unitsOf : List ℕ → List ℕ
-unitsOf octets = pick (beginsFF octets) (unitPairs (drop 1 octets)) (unitsFrom (Count 256) octets)
+unitsOf octets = pick (beginsFF octets) (wire.toUnits (drop 1 octets)) (unitsFrom (Count 256) octets)
 
 -- the octets stand for units: after FF one or more whole units in more runs than half their number, else runs, at most so many
 unfoldable pub standForUnits : List ℕ → Bool

@@ -7,8 +7,9 @@ use Rattle.basis.specs.Tests.{pick}
 use Rattle.utf16.specs.Units.{toUnits}
 use Rattle.base32.specs.Alphabet.{lace}
 use Rattle.base32.specs.Base32.{charactersOf}
+use Rattle.wire.specs.Bytes as wire
 use Rattle.lace.specs.Prefix.{prefix}
-use Rattle.lace.specs.Octets.{Run, run, runOctets, unitOctets}
+use Rattle.lace.specs.Octets.{Run, run, runOctets}
 
 -- one unit more before a row of runs: it joins the first run if their high octets are equal
 unfoldable pub joinRun : ℕ → List Run → List Run
@@ -20,12 +21,13 @@ unfoldable pub longestRuns : List ℕ → List Run
 longestRuns [] = []
 longestRuns (u ∷ us) = joinRun u (longestRuns us)
 
--- the octets of a row of units, of n units in r runs: the runs if 2r + n is at most 2n, else FF and all units
+-- the octets of a row of units, of n units in r runs: the runs if 2r + n is at most 2n, else FF and all units,
+-- high octet first
 unfoldable pub octetsOf : List ℕ → List ℕ
 octetsOf us =
     pick (leb (2 * length (longestRuns us) + length us) (2 * length us))
     (runOctets (longestRuns us))
-    (0xff ∷ unitOctets us)
+    (0xff ∷ wire.toBytes us)
 
 -- the label: the prefix, and the octets in Base32
 unfoldable pub labelOf : List ℕ → List ℕ

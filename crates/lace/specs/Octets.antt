@@ -1,5 +1,5 @@
--- Units as octets: runs (the paper's stretches) of units with equal high octet, all units high octet first, and LDH rows.
-use Prim.Native.Nat.{ℕ, suc, _+_, _*_, _/_, _%_}
+-- Units as octets: runs (the paper's stretches) of units with equal high octet, and LDH rows.
+use Prim.Native.Nat.{ℕ, suc, _+_, _*_, _/_}
 use mathlib.Core.Bool.{Bool}
 use mathlib.Core.List.{List, [], _∷_, _++_, map}
 use lib.Dec.{eqb}
@@ -24,11 +24,6 @@ runUnits (run high lows ∷ runs) = map (unitOf high) lows ++ runUnits runs
 unfoldable pub runOctets : List Run → List ℕ
 runOctets [] = []
 runOctets (run high lows ∷ runs) = length lows ∷ high ∷ (lows ++ runOctets runs)
-
--- all units, high octet first
-unfoldable pub unitOctets : List ℕ → List ℕ
-unitOctets [] = []
-unitOctets (u ∷ us) = u / 256 ∷ u % 256 ∷ unitOctets us
 
 -- 1 where two neighbours differ in high octet, else 0
 unfoldable pub changeBetween : ℕ → ℕ → ℕ

@@ -6,8 +6,6 @@ use lib.Dec.{eqb, ltb}
 use lib.ListN.{length}
 use Rattle.basis.specs.Tests.{pick}
 use Rattle.basis.specs.Outcome.{Outcome, done, refused, refusedIf}
-use Rattle.basis.specs.declared.ErrorCode.{ErrorCode}
-use Rattle.basis.specs.declared.ErrorCode.the-variants.{Capacity, Empty, TooLong, NotAPoint, EdgeHyphen, AllLdh, OutsideAlphabet, NoPrefix, NotWellFormed, UnpairedSurrogate, UnknownScheme, OddByteCount, Truncated, Malformed}
 use Rattle.utf16.specs.Units.{toPoints, firstUnpaired}
 use Rattle.base32.specs.Base32.{quintetCount}
 use Rattle.lace.specs.Octets.{isAllLdh}
@@ -41,19 +39,6 @@ octetsOutcome os =
     (refusedIf (isAllLdh (unitsOf os)) 6 0
     (done (length (toPoints (unitsOf os))))))
 
--- what is answered for an error of the Base32 reader
-unfoldable pub errorAfterPrefix : ErrorCode → ℕ → Outcome
-errorAfterPrefix OutsideAlphabet position = refused 7 (4 + position)
-errorAfterPrefix Capacity position = refused 9 0
-errorAfterPrefix Empty position = refused 9 0
-errorAfterPrefix TooLong position = refused 9 0
-errorAfterPrefix NotAPoint position = refused 9 0
-errorAfterPrefix EdgeHyphen position = refused 9 0
-errorAfterPrefix AllLdh position = refused 9 0
-errorAfterPrefix NoPrefix position = refused 9 0
-errorAfterPrefix NotWellFormed position = refused 9 0
-errorAfterPrefix UnpairedSurrogate position = refused 9 0
-errorAfterPrefix UnknownScheme position = refused 9 0
-errorAfterPrefix OddByteCount position = refused 9 0
-errorAfterPrefix Truncated position = refused 9 0
-errorAfterPrefix Malformed position = refused 9 0
+-- what is answered for an error of the Base32 reader, by its number: 7 is at its index in the label, any other is 9
+unfoldable pub errorAfterPrefix : ℕ → ℕ → Outcome
+errorAfterPrefix number position = pick (eqb number 7) (refused 7 (4 + position)) (refused 9 0)

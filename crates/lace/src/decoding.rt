@@ -8,10 +8,11 @@ ghost use mathlib.Core.List.{[], _++_};
 ghost use Prim.Native.Nat.{_+_, _<_, _≤_};
 ghost use lib.ListN.{length, drop};
 ghost use lib.Seq.{sets};
-ghost use Rattle.basis.specs.Outcome.{bufferAfter};
+ghost use Rattle.basis.specs.Outcome.{numberOf, bufferAfter};
 ghost use Rattle.utf16.specs.Units.{toPoints};
 ghost use Rattle.utf16.specs.Answer.{pointsOutcome};
-ghost use Rattle.lace.specs.Decoding.{mayStand, placeAfter, mayEnd, unitAt, areRuns, unitsFrom, unitPairs, unitsOf, standForUnits};
+ghost use Rattle.wire.specs.Bytes.{toUnits};
+ghost use Rattle.lace.specs.Decoding.{mayStand, placeAfter, mayEnd, unitAt, areRuns, unitsFrom, unitsOf, standForUnits};
 ghost use Rattle.lace.specs.Stepping.{octetsOutcome, errorAfterPrefix};
 
 // A place among runs: before a count, after a run of this high octet (256 where none was); before the high octet of a run of so
@@ -114,8 +115,8 @@ fn put_run_units(octets: &[u8], units: &mut [u16]) -> usize
 // Writes the units of octets that are all units, high octet first, and answers their count.
 fn put_unit_pairs(octets: &[u8], units: &mut [u16]) -> usize
     requires { ⌜ length (now octets) ≤ length (now units) ⌝ }
-    ensures { λ r. ⌜ r ≡ length (unitPairs (now (octets .entry))) ⌝ }
-    ensures { λ _. ⌜ now (units .exit) ≡ unitPairs (now (octets .entry)) ++ drop (length (unitPairs (now (octets .entry)))) (now (units .entry)) ⌝ }
+    ensures { λ r. ⌜ r ≡ length (toUnits (now (octets .entry))) ⌝ }
+    ensures { λ _. ⌜ now (units .exit) ≡ toUnits (now (octets .entry)) ++ drop (length (toUnits (now (octets .entry)))) (now (units .entry)) ⌝ }
 {
     let n = octets.len() / 2;
     let mut i = 0;
@@ -165,7 +166,7 @@ fn stand_for_units(octets: &[u8], units: &[u16]) -> bool
 // The error of the Base32 reader on what follows the prefix: a byte outside the alphabet is at its index in the label.
 pub(crate) fn after_prefix_error(code: ErrorCode, position: usize) -> PointsAnswer
     requires { ⌜ position < 64 ⌝ }
-    ensures { λ r. ⌜ pointsOutcome r ≡ errorAfterPrefix code position ⌝ }
+    ensures { λ r. ⌜ pointsOutcome r ≡ errorAfterPrefix (numberOf code) position ⌝ }
 {
     match code {
         ErrorCode::OutsideAlphabet => utf16::points_error(ErrorCode::OutsideAlphabet, 4 + position),

@@ -4,6 +4,7 @@ use crate::prefix;
 use basis::ByteCount;
 use basis::BytesAnswer;
 use basis::ErrorCode;
+use utf16::UnitCount;
 ghost use mathlib.Core.Path.{_≡_};
 ghost use mathlib.Core.List.{_∷_, _++_};
 ghost use Prim.Native.Nat.{_+_, _*_, _/_, _≤_, _<_};
@@ -12,8 +13,8 @@ ghost use lib.Seq.{sets};
 ghost use Rattle.basis.specs.Outcome.{bytesOutcome, done, bufferAfter};
 ghost use Rattle.base32.specs.Alphabet.{lace};
 ghost use Rattle.base32.specs.Base32.{quintetCount, charactersOf};
+ghost use Rattle.wire.specs.Bytes.{toBytes};
 ghost use Rattle.lace.specs.Prefix.{prefix};
-ghost use Rattle.lace.specs.Octets.{unitOctets};
 ghost use Rattle.lace.specs.Encoding.{octetsOf};
 ghost use Rattle.lace.specs.Stepping.{sameHigh, runStep, runSteps, unitsOutcome};
 
@@ -70,21 +71,15 @@ fn put_runs(units: &[u16], octets: &mut [u8]) -> usize
     at
 }
 
-// Writes FF and all units, high octet first, and answers the count of octets.
+// Stores FF, lends the rest to the writer of all units, high octet first, and answers the count of octets.
 fn put_all(units: &[u16], octets: &mut [u8]) -> usize
     requires { ⌜ (length (now units) ≤ 34) × (2 * length (now units) + 1 ≤ length (now octets)) ⌝ }
     ensures { λ r. ⌜ r ≡ 2 * length (now (units .entry)) + 1 ⌝ }
-    ensures { λ _. ⌜ now (octets .exit) ≡ (0xff ∷ unitOctets (now (units .entry))) ++ drop (2 * length (now (units .entry)) + 1) (now (octets .entry)) ⌝ }
+    ensures { λ _. ⌜ now (octets .exit) ≡ (0xff ∷ toBytes (now (units .entry))) ++ drop (2 * length (now (units .entry)) + 1) (now (octets .entry)) ⌝ }
 {
     octets[0] = 255;
-    let mut i = 0;
-    while i < units.len() {
-        let unit = units[i];
-        octets[2 * i + 1] = (unit / 256) as u8;
-        octets[2 * i + 2] = (unit % 256) as u8;
-        i += 1;
-    }
-    2 * i + 1
+    let answer = wire::to_bytes(units, UnitCount(units.len()), &mut octets[1..]);
+    1 + basis::bytes_written(answer)
 }
 
 // Writes the octets of at most 34 units, and answers their count.
@@ -108,13 +103,7 @@ fn put_label(octets: &[u8], label: &mut [u8]) -> BytesAnswer
 {
     prefix::put_prefix(label);
     let answer = base32::encode(octets, &mut label[4..]);
-    match answer {
-        BytesAnswer::Error { code, position } => basis::bytes_error(code, position),
-        BytesAnswer::Bytes(count) => {
-            let n = count.0;
-            BytesAnswer::Bytes(ByteCount(4 + n))
-        }
-    }
+    BytesAnswer::Bytes(ByteCount(4 + basis::bytes_written(answer)))
 }
 
 // Writes the label of units that may be written, or refuses a label over 63 bytes.

@@ -6,6 +6,7 @@ mod prefix;
 
 use basis::BytesAnswer;
 use basis::ErrorCode;
+use labels::Check;
 use utf16::PointCount;
 use utf16::PointsAnswer;
 use utf16::UnitsAnswer;
@@ -23,15 +24,12 @@ pub fn encode(text: &[u32], label: &mut [u8]) -> BytesAnswer
     ensures { λ r. ⌜ bytesOutcome r ≡ encodeOutcome isAllLdh (length (now (label .entry))) (now (text .entry)) ⌝ }
     ensures { λ _. ⌜ now (label .exit) ≡ bufferAfter (encodeOutcome isAllLdh (length (now (label .entry))) (now (text .entry))) (labelOf (now (text .entry))) (now (label .entry)) ⌝ }
 {
-    if label.len() < 63 {
-        return basis::bytes_error(ErrorCode::Capacity, 0);
-    }
-    if text.len() == 0 {
-        return basis::bytes_error(ErrorCode::Empty, 0);
-    }
-    let bad = utf16::points::first_not_point(text);
-    if bad < text.len() {
-        return basis::bytes_error(ErrorCode::NotAPoint, bad);
+    let check = labels::check_text(text, label.len());
+    match check {
+        Check::Error { code, position } => {
+            return basis::bytes_error(code, position);
+        }
+        Check::Passed => {}
     }
     if octets::text_all_ldh(text) {
         return basis::bytes_error(ErrorCode::AllLdh, 0);
@@ -55,14 +53,12 @@ pub fn decode(label: &[u8], text: &mut [u32]) -> PointsAnswer
     ensures { λ r. ⌜ pointsOutcome r ≡ decodeOutcome isAllLdh (length (now (text .entry))) (now (label .entry)) ⌝ }
     ensures { λ _. ⌜ now (text .exit) ≡ bufferAfter (decodeOutcome isAllLdh (length (now (text .entry))) (now (label .entry))) (textOf (now (label .entry))) (now (text .entry)) ⌝ }
 {
-    if text.len() < 63 {
-        return utf16::points_error(ErrorCode::Capacity, 0);
-    }
-    if label.len() == 0 {
-        return utf16::points_error(ErrorCode::Empty, 0);
-    }
-    if 63 < label.len() {
-        return utf16::points_error(ErrorCode::TooLong, 0);
+    let check = labels::check_label(label.len(), text.len());
+    match check {
+        Check::Error { code, position } => {
+            return utf16::points_error(code, position);
+        }
+        Check::Passed => {}
     }
     if !prefix::has_prefix(label) {
         return utf16::points_error(ErrorCode::NoPrefix, 0);

@@ -18,6 +18,7 @@ use Rattle.basis.proofs.Facts.{Facts}
 use Rattle.utf16.specs.Points.{isText, isLdh}
 use Rattle.utf16.specs.Units.{toUnits, toPoints, highOf, firstUnpaired}
 use Rattle.utf16.specs.Causes.{NotAPointAt}
+use Rattle.labels.specs.Causes.{Empty, TooLong}
 use Rattle.utf16.proofs.Surrogates.{text-at, units-small, units-big}
 use Rattle.utf16.proofs.RoundTrip.{points-back, text-paired, text-units, units-back, units-text, length-toUnits}
 use Rattle.utf16.proofs.Refusals.{points-text}
@@ -33,7 +34,7 @@ use Rattle.lace.specs.Encoding.{octetsOf, labelOf}
 use Rattle.lace.specs.Decoding.{labelOctets, labelUnits, isReadable, textOf}
 use Rattle.lace_facts.specs.WellFormed.{WellFormed}
 use Rattle.lace.specs.Answer.{decodeOutcome}
-use Rattle.lace_facts.specs.Causes.{Empty, TooLong, NoPrefix, OutsideAfterPrefix, NotFormed, OnlyReserved, textCauses, labelCauses, scheme}
+use Rattle.lace_facts.specs.Causes.{NoPrefix, OutsideAfterPrefix, NotFormed, OnlyReserved, textCauses, labelCauses, scheme}
 use Rattle.lace.proofs.EncodeLaws.{length-label}
 use Rattle.lace_facts.proofs.PrefixLaws.{prefix-iff, prefix-front, prefix-long, prefix-spelled, after-front}
 use Rattle.lace.proofs.Runs.{octets-below, units-few}

@@ -5,12 +5,12 @@ use mathlib.Core.Bool.{Bool, true, not}
 use mathlib.Core.Logic.{_↔_, Iff·rfl}
 use mathlib.Core.List.{List, _∷_}
 use lib.ListN.{length}
-use borrow.Author.Tests.{ltb-false, not-false}
+use borrow.Author.Tests.{not-false}
 use Rattle.basis.specs.Rows.{at}
 use Rattle.basis.specs.Causes.{whole, placed, Settles}
-use Rattle.basis.proofs.Tests.{ltb-iff, eqb-iff, fails-iff}
-use Rattle.basis.proofs.Causes.{settle-whole, settle-place, settle-first, settle-done}
-use Rattle.utf16.specs.Points.{isPoint, firstNotPoint}
+use Rattle.basis.proofs.Tests.{ltb-iff, fails-iff}
+use Rattle.basis.proofs.Causes.{settle-whole, settle-place, settle-done}
+use Rattle.labels.proofs.FirstTests.{settle-text, settle-label}
 use Rattle.base32.specs.Alphabet.{lace, isCharacter}
 use Rattle.base32.specs.Answer.{firstOutside}
 use Rattle.lace.specs.Prefix.{hasPrefix, afterPrefix}
@@ -42,24 +42,19 @@ module _ (l : List ℕ) (short : length l ≤ 63) (first : hasPrefix l ≡ true)
 pub decode-settled : (reserved : List ℕ → Bool) (capacity : ℕ) (l : List ℕ) → Settles (whole 1 (capacity < 63) ∷ labelCauses reserved l) (length (textOf l)) (decodeOutcome reserved capacity l)
 unfolding decodeOutcome firstOutside
 decode-settled reserved capacity l =
-    settle-whole _ 1 (ltb-iff capacity 63)
-    (λ _. settle-whole _ 2 (eqb-iff (length l) 0)
-    (λ _. settle-whole _ 3 (ltb-iff 63 (length l))
-    (λ s. settle-whole _ 8 (fails-iff (hasPrefix l) (prefix-iff l))
+    settle-label capacity l
+    (λ _ short. settle-whole _ 8 (fails-iff (hasPrefix l) (prefix-iff l))
     (λ p.
-    let short = ltb-false _ _ s in
     let first = not-false _ p in
     settle-place (length (afterPrefix l)) (λ k. not (isCharacter lace (at (afterPrefix l) k))) (placed 7 (OutsideAfterPrefix l)) (λ i. 4 + i) (λ i h. (i, refl, h)) (λ p h. h)
     (λ inside. settle-whole _ 9 (unreadable-iff l short first inside)
     (λ r. settle-whole _ 6 (reserved-iff l short first inside reserved (not-false _ r))
-    (λ _. settle-done (length (textOf l)))))))))
+    (λ _. settle-done (length (textOf l)))))))
 
 pub encode-settled : (reserved : List ℕ → Bool) (capacity : ℕ) (t : List ℕ) → Settles (whole 1 (capacity < 63) ∷ textCauses reserved t) (length (labelOf t)) (encodeOutcome reserved capacity t)
-unfolding encodeOutcome firstNotPoint
+unfolding encodeOutcome
 encode-settled reserved capacity t =
-    settle-whole _ 1 (ltb-iff capacity 63)
-    (λ _. settle-whole _ 2 (eqb-iff (length t) 0)
-    (λ _. settle-first (length t) (λ k. not (isPoint (at t k))) 4
-    (λ _. settle-whole _ 6 Iff·rfl
+    settle-text capacity t
+    (settle-whole _ 6 Iff·rfl
     (λ _. settle-whole _ 3 (ltb-iff 63 (length (labelOf t)))
-    (λ _. settle-done (length (labelOf t)))))))
+    (λ _. settle-done (length (labelOf t)))))

@@ -1,5 +1,5 @@
 -- Laws on octets and units, there and back, and on the rules of form that octets keep.
-use Prim.Native.Nat.{ℕ, zero, suc, _+_, _*_, _/_, _%_, _≤_, _<_}
+use Prim.Native.Nat.{ℕ, zero, suc, _+_, _*_, _%_, _≤_, _<_}
 use mathlib.Core.Path.{_≡_, refl, sym, ap, ap₂, _∙_, subst}
 use mathlib.Core.Bool.{true, false, not}
 use mathlib.Core.Logic.{_↔_, inl, inr}
@@ -13,13 +13,16 @@ use Rattle.basis.specs.Tests.{both}
 use Rattle.basis.specs.Rows.{at, AllBelow}
 use Rattle.basis.proofs.Tests.{cases, by-lt, both-left, both-right, both-true, true-not-false}
 use Rattle.basis.proofs.Lists.{below-none, below-more, below-tail, below-right}
-use Rattle.lace.specs.Octets.{unitOf, Run, run, runUnits, runOctets, unitOctets, runCount}
+use Rattle.wire.specs.Bytes.{toBytes}
+use Rattle.wire.proofs.RoundTrip.{length-toBytes, units-back, bytes-back}
+use Rattle.wire.proofs.RoundTrip as wire
+use Rattle.lace.specs.Octets.{unitOf, Run, run, runUnits, runOctets, runCount}
 use Rattle.lace.specs.Encoding.{longestRuns, octetsOf}
 use Rattle.lace_facts.specs.WellFormed.{Counted, Differ, StandFor}
-use Rattle.lace.specs.Decoding.{mayStand, placeAfter, mayEnd, unitAt, areRuns, unitsFrom, unitPairs, beginsFF, unitsOf, standForUnits}
+use Rattle.lace.specs.Decoding.{mayStand, placeAfter, mayEnd, unitAt, areRuns, unitsFrom, beginsFF, unitsOf, standForUnits}
 use Rattle.lace.specs.declared.decoding.Place.{Place}
 use Rattle.lace.specs.declared.decoding.Place.the-variants.{Count, High, Low}
-use Rattle.lace.proofs.Runs.{runs-join, runs-count, length-runOctets, length-unitOctets, octets-below, units-few}
+use Rattle.lace.proofs.Runs.{runs-join, runs-count, length-runOctets, octets-below, units-few}
 use Rattle.lace_facts.proofs.DistinctRuns.{Apart, differ-tail, differ-more, runs-differ, runs-counted, distinct-runs}
 
 -- the place after a low octet, the last of a run and any other
@@ -64,35 +67,19 @@ runs-stand previous (run h (l ∷ lows) ∷ rs) c d a b some =
     (lows-stand h l lows (runOctets rs)
     ∙ runs-stand h rs (c .1) (t .1) (t .0) (below-right 256 (l ∷ lows) (runOctets rs) below) (λ e. absurd (omega (arith, b 1 (omega arith))))))
 
--- whole units are read back
-pairs-read : (us : List ℕ) → unitPairs (unitOctets us) ≡ us
-unfolding unitPairs unitOctets
-pairs-read [] = refl
-pairs-read (u ∷ us) = ap₂ _∷_ (omega arith) (pairs-read us)
-
-pairs-written : (os : List ℕ) → AllBelow 256 os → length os % 2 ≡ 0 → unitOctets (unitPairs os) ≡ os
-unfolding unitPairs unitOctets
-pairs-written [] b e = refl
-pairs-written (high ∷ []) b e = absurd (omega arith)
-pairs-written (high ∷ low ∷ os) b e =
-    let l = b 1 (omega arith) in
-    let d : unitOf high low / 256 ≡ high = omega arith in
-    let m : unitOf high low % 256 ≡ low = omega arith in
-    rw (d, m) (ap (λ (xs : List ℕ). high ∷ low ∷ xs) (pairs-written os (λ i h. b (suc (suc i)) (omega arith)) (omega arith)))
-
 -- the octets of units, by the number of their runs
 written-runs : (us : List ℕ) → 2 * runCount us ≤ length us → octetsOf us ≡ runOctets (longestRuns us)
 unfolding octetsOf
 written-runs us h = rw runs-count (rw (le-leb (2 * runCount us + length us) (2 * length us) (omega arith)))
 
-written-all : (us : List ℕ) → length us < 2 * runCount us → octetsOf us ≡ 0xff ∷ unitOctets us
+written-all : (us : List ℕ) → length us < 2 * runCount us → octetsOf us ≡ 0xff ∷ toBytes us
 unfolding octetsOf
 written-all us h = rw runs-count (rw (lt-leb (2 * runCount us + length us) (2 * length us) (omega arith)))
 
 -- the units of either form
-units-all : (us : List ℕ) → unitsOf (0xff ∷ unitOctets us) ≡ us
+units-all : (us : List ℕ) → unitsOf (0xff ∷ toBytes us) ≡ us
 unfolding unitsOf
-units-all us = pairs-read us
+units-all us = units-back us
 
 begins-count : (rs : List Run) → length (runUnits rs) ≤ 254 → beginsFF (runOctets rs) ≡ false
 unfolding runOctets runUnits
@@ -127,7 +114,7 @@ unfolding standForUnits
 stand-written us b some few =
     rw (units-written us b few some)
     (by-lt (length us) (2 * runCount us)
-    (λ h. rw (written-all us h) (both-true (eq-eqb (suc (length (unitOctets us)) % 2) 1 (omega (arith, length-unitOctets us))) (lt-ltb _ _ h)))
+    (λ h. rw (written-all us h) (both-true (eq-eqb (suc (length (toBytes us)) % 2) 1 (omega (arith, length-toBytes us))) (lt-ltb _ _ h)))
     (λ h.
     let e = written-runs us h in
     let below = rw e at (octets-below us b few) in
@@ -228,7 +215,7 @@ unfolding unitsOf
 read-all [] b f odd many = absurd (omega arith)
 read-all (x ∷ os) b f odd many =
     written-all (unitsOf (x ∷ os)) many
-    ∙ ap₂ _∷_ (sym (eqb-true x 255 f)) (rw f (pairs-written os (below-tail 256 x os b) (omega arith)))
+    ∙ ap₂ _∷_ (sym (eqb-true x 255 f)) (rw f (bytes-back os (below-tail 256 x os b) (omega arith)))
 
 read-runs : (os : List ℕ) → AllBelow 256 os → beginsFF os ≡ false → MoreRuns 256 os → 2 * runCount (unitsOf os) ≤ length (unitsOf os) → octetsOf (unitsOf os) ≡ os
 unfolding unitsOf
@@ -245,19 +232,7 @@ stand-read os b e =
     (λ f. let s = stand-all os f e in read-all os b f (s .0) (s .1))
     (λ f. let s = stand-runs os f e in read-runs os b f (follow (Count 256) os (s .0)) (s .1))
 
--- the units of octets are units
-unit-below : (high low : ℕ) → high < 256 → low < 256 → unitOf high low < 0x10000
-unit-below high low h l = omega arith
-
-pairs-below : (os : List ℕ) → AllBelow 256 os → AllBelow 0x10000 (unitPairs os)
-unfolding unitPairs
-pairs-below [] b = below-none 0x10000
-pairs-below (high ∷ []) b = below-none 0x10000
-pairs-below (high ∷ low ∷ os) b =
-    below-more 0x10000 (unitOf high low) (unitPairs os) (unit-below high low (b 0 (omega arith)) (b 1 (omega arith)))
-    (pairs-below os (λ i h. b (suc (suc i)) (omega arith)))
-
--- the high octet of a place, if it has one, is an octet
+-- the units of octets are units: the high octet of a place, if it has one, is an octet
 abbrev HighBelow : Place → Type 0
 HighBelow (Count previous) = Unit {0}
 HighBelow (High previous count) = Unit {0}
@@ -269,14 +244,14 @@ from-below place [] h b = below-none 0x10000
 from-below (Count previous) (x ∷ os) h b = from-below (High previous x) os tt (below-tail 256 x os b)
 from-below (High previous count) (x ∷ os) h b = from-below (Low count x) os (b 0 (omega arith)) (below-tail 256 x os b)
 from-below (Low left high) (x ∷ os) h b =
-    below-more 0x10000 (unitOf high x) (unitsFrom (placeAfter (Low left high) x) os) (unit-below high x h (b 0 (omega arith)))
+    below-more 0x10000 (unitOf high x) (unitsFrom (placeAfter (Low left high) x) os) (let l : x < 256 = b 0 (omega arith) in omega arith)
     (from-below (placeAfter (Low left high) x) os (cases (ltb left 2) (λ e. rw e tt) (λ e. rw e h)) (below-tail 256 x os b))
 
 pub units-below : (os : List ℕ) → AllBelow 256 os → AllBelow 0x10000 (unitsOf os)
 unfolding unitsOf
 units-below os b =
     cases (beginsFF os)
-    (λ f. rw f (pairs-below (drop 1 os) (λ i h. rw (getD-drop 1 os i 0) (b (1 + i) (omega (arith, length-drop 1 os))))))
+    (λ f. rw f (wire.units-below (drop 1 os) (λ i h. rw (getD-drop 1 os i 0) (b (1 + i) (omega (arith, length-drop 1 os))))))
     (λ f. rw f (from-below (Count 256) os tt b))
 
 -- one at least

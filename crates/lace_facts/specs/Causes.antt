@@ -3,12 +3,12 @@ use Prim.Native.Nat.{ℕ, _+_, _<_}
 use mathlib.Core.Path.{_≡_}
 use mathlib.Core.Bool.{Bool, true}
 use mathlib.Core.List.{List, [], _∷_}
-use lib.ListN.{length}
 use Rattle.basis.specs.Rows.{at}
 use Rattle.basis.specs.Case.{small}
 use Rattle.basis.specs.Causes.{Cause, whole, placed}
 use Rattle.basis.specs.Scheme.{Scheme}
-use Rattle.utf16.specs.Causes.{NotAPointAt}
+use Rattle.labels.specs.Causes.{TooLong}
+use Rattle.labels.specs.Causes as labels
 use Rattle.base32.specs.Alphabet.{lace}
 use Rattle.base32.specs.Causes.{OutsideAt}
 use Rattle.lace.specs.Prefix.{prefix, afterPrefix}
@@ -16,14 +16,6 @@ use Rattle.lace.specs.Encoding.{labelOf}
 use Rattle.lace_facts.specs.WellFormed.{Formed, WellFormed}
 use Rattle.lace.specs.Decoding.{textOf}
 use Rattle.lace.specs.Answer.{encodeOutcome, decodeOutcome}
-
--- 2: empty
-abbrev pub Empty : List ℕ → Type 0
-Empty xs = length xs ≡ 0
-
--- 3: over 63 bytes
-abbrev pub TooLong : List ℕ → Type 0
-TooLong l = 63 < length l
 
 -- 8: the prefix is missing
 abbrev pub NoPrefix : List ℕ → Type 0
@@ -41,16 +33,14 @@ NotFormed l = (units : List ℕ) → Formed l units → ⊥
 abbrev pub OnlyReserved : (List ℕ → Bool) → List ℕ → Type 0
 OnlyReserved reserved l = (units : List ℕ) × Formed l units × (reserved units ≡ true)
 
--- against writing a text, in order
+-- against writing a text, in order: 2, 4, 6, 3
 abbrev pub textCauses : (List ℕ → Bool) → List ℕ → List Cause
-textCauses reserved t =
-    whole 2 (Empty t) ∷ placed 4 (NotAPointAt t) ∷ whole 6 (reserved t ≡ true) ∷ whole 3 (TooLong (labelOf t)) ∷ []
+textCauses reserved t = labels.textCauses t (whole 6 (reserved t ≡ true) ∷ whole 3 (TooLong (labelOf t)) ∷ [])
 
--- against reading a label, in order
+-- against reading a label, in order: 2, 3, 8, 7, 9, 6
 abbrev pub labelCauses : (List ℕ → Bool) → List ℕ → List Cause
 labelCauses reserved l =
-    whole 2 (Empty l) ∷ whole 3 (TooLong l) ∷ whole 8 (NoPrefix l) ∷ placed 7 (OutsideAfterPrefix l) ∷ whole 9 (NotFormed l)
-    ∷ whole 6 (OnlyReserved reserved l) ∷ []
+    labels.labelCauses l (whole 8 (NoPrefix l) ∷ placed 7 (OutsideAfterPrefix l) ∷ whole 9 (NotFormed l) ∷ whole 6 (OnlyReserved reserved l) ∷ [])
 
 -- LACE as a scheme, of which the demands speak
 abbrev pub scheme : (List ℕ → Bool) → Scheme

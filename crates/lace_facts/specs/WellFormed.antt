@@ -11,8 +11,9 @@ use Rattle.utf16.specs.Units.{unpairedAt}
 use Rattle.base32.specs.Alphabet.{lace, isCharacter, valuesOf}
 use Rattle.base32.specs.Bits.{rowBit}
 use Rattle.base32.specs.Form.{octetCount, isLawful}
+use Rattle.wire.specs.Bytes.{toBytes}
 use Rattle.lace.specs.Prefix.{prefix, afterPrefix}
-use Rattle.lace.specs.Octets.{Run, run, runUnits, runOctets, unitOctets, runCount}
+use Rattle.lace.specs.Octets.{Run, run, runUnits, runOctets, runCount}
 
 -- the octets are the whole octets of the characters' bits
 pub record OctetsIn (characters octets : List ℕ) : Type 0 where
@@ -33,7 +34,7 @@ Differ (run high lows ∷ run next more ∷ runs) = (high ≡ next → ⊥) × D
 
 -- the octets are FF and one or more units, with 2r > n
 pub record AllUnits (octets units : List ℕ) : Type 0 where
-  pub are : octets ≡ 0xff ∷ unitOctets units
+  pub are : octets ≡ 0xff ∷ toBytes units
   pub some : 1 ≤ length units
   pub many : length units < 2 * runCount units
 

@@ -1,5 +1,5 @@
 -- The run over an input cut into any chunks finds exactly the lines of the whole input, each held as its first bytes.
-use Prim.Native.Nat.{ℕ, zero, suc, _+_, _≤_}
+use Prim.Native.Nat.{ℕ, zero, suc, _≤_}
 use mathlib.Core.Path.{_≡_, refl, sym, ap, ap₂, _∙_}
 use mathlib.Core.List.{List, [], _∷_, _++_, map, foldr, foldr-append, flatten, append-nil}
 use lib.ListN.{take}

@@ -31,7 +31,7 @@ module _ (chunk line : List ℕ) (held from : ℕ) (now : List ℕ) (is : now �
 
     -- the line ended
     module _ (next n : ℕ) (g : answer ≡ Ended next n) where
-      ended : (lineEnd left < length left) × (next ≡ from + lineEnd left + 1) × (n ≡ length holding)
+      pub ended : (lineEnd left < length left) × (next ≡ from + lineEnd left + 1) × (n ≡ length holding)
       ended = answers-ended from left (length holding) next n (sym g ∙ e)
 
       pub later : from < next

@@ -1,12 +1,12 @@
 -- A table that is read: each of its entries is found, and its label decodes; the count of points is at most the room.
 use Prim.Native.Nat.{ℕ, _≤_, _<_}
-use mathlib.Core.Path.{_≡_, refl, sym, ap, _∙_}
-use mathlib.Core.List.{List, _++_}
+use mathlib.Core.Path.{_≡_, refl, sym}
+use mathlib.Core.List.{List}
 use lib.Dec.{ltb}
-use lib.ListN.{length, drop, length-append}
+use lib.ListN.{length}
 use borrow.Author.Tests.{ltb-true, ltb-false}
 use native.Mathlib.Omega.{arith}
-use Rattle.basis.specs.Outcome.{Outcome, done, refused, bufferAfter}
+use Rattle.basis.specs.Outcome.{Outcome, done, refused}
 use Rattle.basis.proofs.Tests.{cases}
 use Rattle.basis.proofs.Outcome.{done-not-refused, done-count}
 use Rattle.scheme.specs.Naming.{numberOf}
@@ -64,12 +64,3 @@ found-short t index capacity n e =
         let s = decoded-short (schemeIn (entryAt t index)) capacity (length (entryText t index)) (labelIn (entryAt t index)) d in
         (omega (arith, count), room))
         (λ c. absurd (done-not-refused (rw c at e) refl))
-
--- so it is at most the room that was lent
-pub found-fits : (t : List ℕ) (index capacity : ℕ) (old now : List ℕ) (n : ℕ) → counted (findOutcome t index capacity) ≡ done n
-    → now ≡ bufferAfter (counted (findOutcome t index capacity)) (entryText t index) old → n ≤ length now
-unfolding bufferAfter
-found-fits t index capacity old now n e b =
-    let k = found-count t index capacity n e in
-    let s : now ≡ entryText t index ++ drop n old = b ∙ rw e in
-    omega (arith, ap length s, length-append (entryText t index) (drop n old))

@@ -21,8 +21,9 @@ use Rattle.nametable.specs.declared.EntryAnswer.{EntryAnswer}
 use Rattle.nametable.specs.declared.EntryAnswer.the-variants.{Entry, Error}
 use Rattle.nametable.proofs.Whole.{entry-found, entry-decodes}
 use Rattle.report.specs.Lines.{listLine}
+use Rattle.report.specs.Answer.{lineRoom}
 use Rattle.report.proofs.Widths.{list-few}
-use Rattle.nametable_list.specs.Listing.{entryLine, HasEntry, lineRoom}
+use Rattle.nametable_list.specs.Listing.{entryLine, HasEntry}
 
 -- what is found is found with one reader number, scheme number and count
 found-once : {r s n r′ s′ n′ : ℕ} → found r s n ≡ found r′ s′ n′ → (r ≡ r′) × (s ≡ s′) × (n ≡ n′)

@@ -32,9 +32,6 @@ pub record HasEntry (table : List ℕ) (index : ℕ) : Type 0 where
   pub whole : readOutcome table ≡ done count
   pub inside : index < count
 
--- the room that is lent for a line, and for all lines of the fullest table
-abbrev pub lineRoom : ℕ
-lineRoom = 600
-
+-- the room that is lent for all lines of the fullest table
 abbrev pub listingRoom : ℕ
 listingRoom = 300000

@@ -1,29 +1,16 @@
 // What is printed for a book of names, in a lent buffer.
-use basis::BytesAnswer;
 use basis::ErrorCode;
 use nametable::EntryAnswer;
 use nametable::TableAnswer;
-ghost use Prim.Native.Nat.{ℕ, _*_, _≤_};
+ghost use Prim.Native.Nat.{_*_, _≤_};
 ghost use mathlib.Core.Path.{_≡_};
 ghost use mathlib.Core.List.{_++_};
 ghost use lib.ListN.{length, drop};
-ghost use Rattle.basis.specs.Outcome.{done, bytesOutcome, numberOf};
+ghost use Rattle.basis.specs.Outcome.{done, numberOf};
 ghost use Rattle.nametable.specs.Answer.{readOutcome};
 ghost use Rattle.report.specs.Lines.{refusedAtLine};
-ghost use Rattle.nametable_list.specs.Listing.{entryLine, entryLines, listing, HasEntry, lineRoom, listingRoom};
-
-// How many bytes were written, by an answer that is no error.
-fn count(answer: BytesAnswer) -> usize
-    ensures { λ r. ⌜ ((n : ℕ) → bytesOutcome answer ≡ done n → r ≡ n) ⌝ }
-{
-    match answer {
-        BytesAnswer::Bytes(bytes) => bytes.0,
-        BytesAnswer::Error {
-            code: _,
-            position: _,
-        } => 0,
-    }
-}
+ghost use Rattle.report.specs.Answer.{lineRoom};
+ghost use Rattle.nametable_list.specs.Listing.{entryLine, entryLines, listing, HasEntry, listingRoom};
 
 // Writes the line of a refusal, and answers its length.
 fn put_refusal(code: ErrorCode, position: usize, out: &mut [u8]) -> usize
@@ -31,7 +18,7 @@ fn put_refusal(code: ErrorCode, position: usize, out: &mut [u8]) -> usize
     ensures { λ r. ⌜ r ≡ length (refusedAtLine (numberOf code) position) ⌝ }
     ensures { λ _. ⌜ now (out .exit) ≡ refusedAtLine (numberOf code) position ++ drop (length (refusedAtLine (numberOf code) position)) (now (out .entry)) ⌝ }
 {
-    count(report::refused_at_line(basis::code_number(code), position, out))
+    basis::bytes_written(report::refused_at_line(basis::code_number(code), position, out))
 }
 
 // Writes the line of an entry of a table that reads whole, and answers its length.
@@ -55,7 +42,7 @@ fn put_entry(table: &[u8], index: usize, out: &mut [u8]) -> usize
         } => {
             let n = points_count.0;
             let letter = scheme::letter(scheme);
-            count(report::list_line(reader, letter, &points[..n], out))
+            basis::bytes_written(report::list_line(reader, letter, &points[..n], out))
         }
     }
 }

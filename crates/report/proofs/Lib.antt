@@ -4,4 +4,5 @@ pub mod Writes
 pub mod DigitLaws
 pub mod PointLaws
 pub mod LineLaws
+pub mod Filling
 pub mod Widths

@@ -4,10 +4,9 @@ use mathlib.Core.Path.{_≡_, ap, _∙_}
 use mathlib.Core.List.{List, [], _∷_, _++_}
 use native.Mathlib.Omega.{arith}
 use lib.ListN.{length, drop, length-append}
-use borrow.Author.Tests.{lt-ltb, le-ltb}
-use Rattle.basis.specs.Outcome.{Outcome, done, refused, refusedIf, bufferAfter}
+use Rattle.basis.specs.Outcome.{Outcome, done, refused, countOf, bufferAfter}
 use Rattle.basis.proofs.Lists.{sets-front}
-use Rattle.basis.proofs.Outcome.{refused-leaves, done-leaves}
+use Rattle.basis.proofs.Outcome.{stop-below, pass-below, refusal-leaves, done-leaves}
 use Rattle.report.specs.Digits.{fixedDigits, digitsOf}
 use Rattle.report.specs.Lines.{pointsBytes, pointsLine, listLine, refusedWord, atWord, refusedNumber, refusedLine, refusedAtLine}
 use Rattle.report.specs.Answer.{lineOutcome}
@@ -42,23 +41,22 @@ module _ (line old : List ℕ) where
   Answered answer now = (answer ≡ lineOutcome line (length old)) × (now ≡ bufferAfter (lineOutcome line (length old)) line old)
 
   pub line-refused : length old < length line → (answer : Outcome) → answer ≡ refused 1 0 → Answered answer old
-  unfolding lineOutcome refusedIf
-  line-refused h answer e =
-      let r = refused-leaves (lineOutcome line (length old)) line old 1 0 (simp (lt-ltb (length old) (length line) h)) in
-      (e ∙ r .0, r .1)
+  unfolding lineOutcome
+  line-refused h answer e = refusal-leaves _ answer _ old 1 0 e (stop-below _ _ _ _ _ h)
 
   pub line-done : length line ≤ length old → (now : List ℕ) (n : ℕ) → Stored old 0 line now n → Answered (done n) now
-  unfolding lineOutcome refusedIf
+  unfolding lineOutcome
   line-done h now n s =
       let e : length line ≡ n = omega (arith, s .index) in
       done-leaves (lineOutcome line (length old)) line old now n
-      (simp (le-ltb (length old) (length line) h) (ap done e))
+      (pass-below _ _ _ _ _ h ∙ ap done e)
       (s .stores ∙ sets-front line old h ∙ ap (λ (k : ℕ). line ++ drop k old) e)
 
-  -- a line that has room is written whole
-  pub line-written : length line ≤ length old → (answer : Outcome) (now : List ℕ) → answer ≡ lineOutcome line (length old) → now ≡ bufferAfter (lineOutcome line (length old)) line old
-      → (answer ≡ done (length line)) × (now ≡ line ++ drop (length line) old)
-  unfolding lineOutcome refusedIf bufferAfter
-  line-written h answer now a b =
-      let o : lineOutcome line (length old) ≡ done (length line) = rw (le-ltb (length old) (length line) h) in
-      (a ∙ o, b ∙ rw o)
+  -- a line that has room is written whole, by the count of the answer
+  pub line-written : (whole : List ℕ) → line ≡ whole → length whole ≤ length old → (answer : Outcome) (now : List ℕ) → Answered answer now → (n : ℕ) → n ≡ countOf answer
+      → (n ≡ length whole) × (now ≡ whole ++ drop (length whole) old)
+  unfolding lineOutcome bufferAfter countOf
+  line-written whole same h answer now a n c =
+      let o : lineOutcome whole (length old) ≡ done (length whole) = pass-below _ _ _ _ _ h in
+      let b = rw same at a in
+      (c ∙ ap countOf (b .0 ∙ o), b .1 ∙ rw o)

@@ -1,9 +1,9 @@
--- Stores one after the other: two pieces, and a row of pieces by what is left to store; and values in front of a buffer.
+-- Stores one after the other: two pieces, and a row of pieces by what is left to store.
 use Prim.Native.Nat.{ℕ, _+_, _≤_, _<_}
 use mathlib.Core.Path.{_≡_, refl, sym, ap, _∙_}
 use mathlib.Core.List.{List, [], _∷_, _++_, append-assoc, append-nil}
 use lib.ListN.{length, getD, drop, set, length-append, drop-of-length-le}
-use lib.Seq.{length-sets, drop-cons, drop-drop}
+use lib.Seq.{length-sets, drop-cons}
 use native.Mathlib.Nat.{add-zero}
 use native.Mathlib.Numerals.{add-one}
 use native.Mathlib.Omega.{arith}
@@ -65,8 +65,3 @@ module _ (bytes old : List ℕ) (from : ℕ) where
 
     pub bytes-end : length bytes ≤ i → Stored old from bytes now (from + i)
     bytes-end h = begun-end b (drop-of-length-le bytes h)
-
--- values in front of a buffer, and others behind them
-pub front-more : (values more old : List ℕ) → values ++ (more ++ drop (length more) (drop (length values) old)) ≡ (values ++ more) ++ drop (length (values ++ more)) old
-front-more values more old =
-    rw (drop-drop (length more) (length values) old, length-append values more) (sym (append-assoc values more (drop (length values + length more) old)))

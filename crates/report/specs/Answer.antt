@@ -1,9 +1,13 @@
--- What the writer of a line answers.
+-- What the writer of a line answers, and the room that programs lend it.
 use Prim.Native.Nat.{ℕ}
 use mathlib.Core.List.{List}
 use lib.Dec.{ltb}
 use lib.ListN.{length}
 use Rattle.basis.specs.Outcome.{Outcome, done, refusedIf}
+
+-- the room that a program lends for a line
+abbrev pub lineRoom : ℕ
+lineRoom = 600
 
 -- writing a line into a buffer of so many bytes: 1 if it does not fit, else its length
 unfoldable pub lineOutcome : List ℕ → ℕ → Outcome

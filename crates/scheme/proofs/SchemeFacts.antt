@@ -2,14 +2,16 @@
 use Prim.Native.Nat.{ℕ, _≤_, _<_}
 use mathlib.Core.Path.{_≡_, refl, ap, _∙_}
 use mathlib.Core.Bool.{true}
-use mathlib.Core.List.{List}
+use mathlib.Core.List.{List, [], _∷_}
 use lib.ListN.{length, getD}
 use native.Mathlib.Omega.{arith}
 use Rattle.basis.specs.Outcome.{done}
+use Rattle.basis.specs.Causes.{whole, placed, NoCause}
 use Rattle.basis.specs.Scheme.{Writable}
 use Rattle.basis.proofs.Facts.{Facts}
 use Rattle.basis.proofs.Tests.{by-lt, at-each}
 use Rattle.utf16.specs.Points.{isPoint, isText}
+use Rattle.utf16.specs.Causes.{NotAPointAt}
 use Rattle.utf16.proofs.Refusals.{points-text}
 use Rattle.utf16.proofs.Surrogates.{point-top}
 use Rattle.altdude_facts.proofs.SchemeFacts.{altdude-facts}
@@ -24,38 +26,48 @@ scheme-facts Altdude = altdude-facts
 scheme-facts Lace = lace-facts
 
 -- encoding and decoding by scheme are those of the scheme's definitions
+same-coding : (s : Scheme) → (encodeOutcome s ≡ schemeOf s .encodeOutcome) × (decodeOutcome s ≡ schemeOf s .decodeOutcome) × (labelOf s ≡ schemeOf s .labelOf) × (textOf s ≡ schemeOf s .textOf)
+unfolding encodeOutcome decodeOutcome labelOf textOf
+same-coding Altdude = (refl, refl, refl, refl)
+same-coding Lace = (refl, refl, refl, refl)
+
 pub same-encoding : (s : Scheme) → encodeOutcome s ≡ schemeOf s .encodeOutcome
-unfolding encodeOutcome
-same-encoding Altdude = refl
-same-encoding Lace = refl
+same-encoding s = same-coding s .0
 
 pub same-decoding : (s : Scheme) → decodeOutcome s ≡ schemeOf s .decodeOutcome
-unfolding decodeOutcome
-same-decoding Altdude = refl
-same-decoding Lace = refl
+same-decoding s = same-coding s .1
 
 pub same-label : (s : Scheme) → labelOf s ≡ schemeOf s .labelOf
-unfolding labelOf
-same-label Altdude = refl
-same-label Lace = refl
+same-label s = same-coding s .2
 
 pub same-text : (s : Scheme) → textOf s ≡ schemeOf s .textOf
-unfolding textOf
-same-text Altdude = refl
-same-text Lace = refl
+same-text s = same-coding s .3
 
--- what may be written is a row of one point or more, whose label has at most 63 bytes
+-- what may be written is a row of one point or more, whose label has at most 63 bytes, whatever the scheme's own cause
+record Plain (t label : List ℕ) : Type 0 where
+  some : 1 ≤ length t
+  text : isText t ≡ true
+  short : length label ≤ 63
+
+plain : (number : ℕ) (Own : ℕ → Type 0) (t label : List ℕ) → NoCause (whole 2 (length t ≡ 0) ∷ placed 4 (NotAPointAt t) ∷ placed number Own ∷ whole 3 (63 < length label) ∷ []) → Plain t label
+plain number Own t label w = record {
+  some = by-lt 0 (length t) (λ h. h) (λ h. absurd (w .0 0 (refl, omega arith)));
+  text = points-text t (w .1 .0);
+  short = by-lt 63 (length label) (λ h. absurd (w .1 .1 .1 .0 0 (refl, h))) (λ h. h);
+}
+
+writable-plain : (s : Scheme) (t : List ℕ) → Writable (schemeOf s) t → Plain t (schemeOf s .labelOf t)
+writable-plain Altdude t w = plain 5 _ t _ w
+writable-plain Lace t w = plain 6 _ t _ w
+
 pub writable-some : (s : Scheme) (t : List ℕ) → Writable (schemeOf s) t → 1 ≤ length t
-writable-some Altdude t w = by-lt 0 (length t) (λ h. h) (λ h. absurd (w .0 0 (refl, omega arith)))
-writable-some Lace t w = by-lt 0 (length t) (λ h. h) (λ h. absurd (w .0 0 (refl, omega arith)))
+writable-some s t w = writable-plain s t w .some
 
 pub writable-text : (s : Scheme) (t : List ℕ) → Writable (schemeOf s) t → isText t ≡ true
-writable-text Altdude t w = points-text t (w .1 .0)
-writable-text Lace t w = points-text t (w .1 .0)
+writable-text s t w = writable-plain s t w .text
 
 pub writable-short : (s : Scheme) (t : List ℕ) → Writable (schemeOf s) t → length (schemeOf s .labelOf t) ≤ 63
-writable-short Altdude t w = by-lt 63 _ (λ h. absurd (w .1 .1 .1 .0 0 (refl, h))) (λ h. h)
-writable-short Lace t w = by-lt 63 _ (λ h. absurd (w .1 .1 .1 .0 0 (refl, h))) (λ h. h)
+writable-short s t w = writable-plain s t w .short
 
 -- a label that is written has at most 63 bytes
 pub encoded-short : (s : Scheme) (capacity n : ℕ) (t : List ℕ) → encodeOutcome s capacity t ≡ done n → n ≤ 63

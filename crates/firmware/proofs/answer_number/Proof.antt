@@ -1,9 +1,9 @@
 -- `answer_number` meets its contract: a count of at most 252, or an error's number, which is at most 14.
 use native.Mathlib.Omega.{arith}
 use borrow.Author.Needs.{needs}
-use Rattle.basis.specs.Outcome.{bytesOutcome}
-use Rattle.firmware.specs.Answer.{countOf, answerOf}
-use Rattle.firmware.proofs.Steps.{number-below}
+use Rattle.basis.specs.Outcome.{countOf, bytesOutcome}
+use Rattle.basis.proofs.Outcome.{number-place}
+use Rattle.firmware.specs.Answer.{answerOf}
 use Rattle.firmware.proofs.answer_number.Statement.{statement}
 use Rattle.firmware.proofs.answer_number.Tie as tie
 
@@ -23,7 +23,7 @@ code-number-requires : tie.Need-code-number-requires
 code-number-requires c κs = search needs
 
 add-result : tie.Need-add-result
-add-result c = record { fits = omega (arith, c .code-number .ensures, number-below (c .before .before .answer2 .given .0 .0)) }
+add-result c = record { fits = omega (arith, c .code-number .ensures, number-place (c .before .before .answer2 .given .0 .0) .1) }
 
 returns : tie.Need-returns
 unfolding bytesOutcome answerOf

@@ -6,19 +6,19 @@ use native.Mathlib.Omega.{arith}
 use lib.ListN.{length}
 use borrow.Author.Needs.{needs}
 use Rattle.basis.proofs.Tests.{true-not-false}
-use Rattle.altdude.proofs.DecodeLaws.{Reading, Storing, symbol-small, reading-start, reading-stop, storing-start, storing-turn, storing-end}
+use Rattle.altdude.proofs.DecodeLaws.{Reading, Putting, symbol-small, reading-start, reading-stop, putting-start, putting-turn, putting-end}
 use Rattle.altdude.proofs.decoding.put_text.Statement.{statement}
 use Rattle.altdude.proofs.decoding.put_text.Tie as tie
 
 abbrev Inv-loop : tie.InvT-loop
 Inv-loop label text₀ remembered₀ pending₀ at₀ i₀ text remembered pending at i =
-    Reading label true remembered pending i × Storing label text₀ text remembered pending at i
+    Reading label true remembered pending i × Putting label text₀ text remembered pending at i
 
 abbrev μ-loop : tie.MeasureT-loop
 μ-loop label text₀ remembered₀ pending₀ at₀ i₀ text remembered pending at i = length label - i
 
 loop-holds : tie.Need-loop-holds Inv-loop μ-loop
-loop-holds c = (reading-start _ _ (sym (c .before .before .pre .0)), storing-start _ _)
+loop-holds c = (reading-start _ _ (sym (c .before .before .pre .0)), putting-start _ _)
 
 shared-slice-read-symbol-of : tie.Need-shared-slice-read-symbol-of Inv-loop μ-loop
 shared-slice-read-symbol-of c = search needs
@@ -39,7 +39,7 @@ enum-told : tie.Need-enum-told Inv-loop μ-loop
 enum-told c = search needs
 
 same-length : tie.Need-same-length Inv-loop μ-loop
-same-length c = c .before .before .before .before .before .before .loop .inv .1 .sameLength
+same-length c = c .before .before .before .before .before .before .loop .inv .1 .storing .long
 
 returns : tie.Need-returns Inv-loop μ-loop
 returns c =
@@ -50,7 +50,9 @@ returns c =
     absurd (true-not-false refl (sym stop))
 
 put-symbol-requires : tie.Need-put-symbol-requires Inv-loop μ-loop
-put-symbol-requires c κs = omega arith
+put-symbol-requires c κs =
+    let l = c .before .before .before .before .before .before .before .before .loop in
+    omega (arith, l .inv .1 .behind, l .inv .1 .storing .long)
 
 add-i : tie.Need-add-i Inv-loop μ-loop
 add-i c = search needs
@@ -64,14 +66,14 @@ loop-again c =
     let n = p .before .before .before in
     let a = n .before .before in
     let l = a .before .before .before .before .loop in
-    storing-turn _ _ _ _ _ (l .inv .0) (a .before .before .before .loop-test .taken) _ (a .before .symbol-of .ensures) _ (a .advance .ensures) _ _
+    putting-turn _ _ _ _ _ (l .inv .0) (a .before .before .before .loop-test .taken) _ (a .before .symbol-of .ensures) _ (a .advance .ensures) _ _
     (n .next .given .1) _ _ _ _ _ (l .inv .1) (p .put-symbol .ensures .0) (p .put-symbol .ensures .1)
 
 same-length-2 : tie.Need-same-length-2 Inv-loop μ-loop
-same-length-2 c = c .before .loop .inv .1 .sameLength
+same-length-2 c = c .before .loop .inv .1 .storing .long
 
 returns-2 : tie.Need-returns-2 Inv-loop μ-loop
-returns-2 c = storing-end _ _ _ _ _ _ _ (c .before .loop .inv .1) (c .loop-test .left)
+returns-2 c = putting-end _ _ _ _ _ _ _ (c .before .loop .inv .1) (c .loop-test .left) (c .before .before .before .before .pre .1)
 
 pub put-text-spec : {M : Type 1} → statement M
 put-text-spec =

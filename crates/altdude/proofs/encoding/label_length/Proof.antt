@@ -4,19 +4,19 @@ use mathlib.Core.Path.{_≡_}
 use native.Mathlib.Omega.{arith}
 use lib.ListN.{length, drop}
 use borrow.Author.Needs.{needs}
-use Rattle.altdude.specs.Encoding.{symbolsFrom}
-use Rattle.altdude.proofs.EncodeLaws.{item-within, count-turn, count-end}
+use Rattle.altdude.specs.Encoding.{symbolsFrom, labelOf}
+use Rattle.altdude.proofs.EncodeLaws.{item-within, count-start, count-turn, count-end}
 use Rattle.altdude.proofs.encoding.label_length.Statement.{statement}
 use Rattle.altdude.proofs.encoding.label_length.Tie as tie
 
 abbrev Inv-loop : tie.InvT-loop
-Inv-loop text n₀ remembered₀ i₀ n remembered i = (length (symbolsFrom 96 text) ≡ n + length (symbolsFrom remembered (drop i text))) × (n ≤ 63) × (i ≤ length text)
+Inv-loop text n₀ remembered₀ i₀ n remembered i = (length (labelOf text) ≡ n + length (symbolsFrom remembered (drop i text))) × (n ≤ 63) × (i ≤ length text)
 
 abbrev μ-loop : tie.MeasureT-loop
 μ-loop text n₀ remembered₀ i₀ n remembered i = length text - i
 
 loop-holds : tie.Need-loop-holds Inv-loop μ-loop
-loop-holds c = (search needs, omega arith, omega arith)
+loop-holds c = (count-start _, omega arith, omega arith)
 
 mul-point : tie.Need-mul-point Inv-loop μ-loop
 mul-point c = search needs

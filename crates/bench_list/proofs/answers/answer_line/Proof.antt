@@ -1,8 +1,8 @@
 -- `answers::answer_line` meets its contract: an answer below 1000 is of a text, any other of a refusal.
 use native.Mathlib.Omega.{arith}
+use Rattle.report.proofs.LineLaws.{line-written}
 use Rattle.bench_list.specs.Listing.{benchLine}
 use Rattle.bench_list.proofs.Widths.{line-fits}
-use Rattle.bench_list.proofs.TextLines.{line-written}
 use Rattle.bench_list.proofs.Reading.{read-below, refused-from}
 use borrow.Author.Needs.{needs}
 use Rattle.bench_list.proofs.answers.answer_line.Statement.{statement}
@@ -32,8 +32,8 @@ text-line-requires c κs =
     let d = c .before .before .before .before .distelhut-read in
     read-below _ _ _ _ (d .ensures .0) (d .ensures .1) (c .before .before .if1 .taken) .bytes
 
-count-requires : tie.Need-count-requires
-count-requires c κs = search needs
+bytes-written-requires : tie.Need-bytes-written-requires
+bytes-written-requires c κs = search needs
 
 same-length : tie.Need-same-length
 same-length c = search needs
@@ -44,13 +44,14 @@ returns c =
     let k = t .before .before .before in
     let d = k .before .before .distelhut-read in
     let a = c .before .before .before .before .before .before .before .before .before .before .before .before .args in
-    line-written _ (benchLine (a .label .now)) (a .out .now) (read-below _ _ _ _ (d .ensures .0) (d .ensures .1) (k .if1 .taken) .line) (omega (arith, line-fits (a .label .now))) _ _ _ (t .text-line .ensures .0) (t .text-line .ensures .1) (c .count .ensures)
+    line-written _ (a .out .now) (benchLine (a .label .now)) (read-below _ _ _ _ (d .ensures .0) (d .ensures .1) (k .if1 .taken) .line) (omega (arith, line-fits (a .label .now))) _ _ (t .text-line .ensures) _
+    (c .bytes-written .ensures)
 
 refused-line-requires : tie.Need-refused-line-requires
 refused-line-requires c κs = search needs
 
-count-requires-2 : tie.Need-count-requires-2
-count-requires-2 c κs = search needs
+bytes-written-requires-2 : tie.Need-bytes-written-requires-2
+bytes-written-requires-2 c κs = search needs
 
 same-length-2 : tie.Need-same-length-2
 same-length-2 c = search needs
@@ -61,7 +62,8 @@ returns-2 c =
     let k = t .before .before in
     let d = k .before .before .distelhut-read in
     let a = c .before .before .before .before .before .before .before .before .before .before .before .args in
-    line-written _ (benchLine (a .label .now)) (a .out .now) (refused-from _ _ _ _ (d .ensures .0) (d .ensures .1) (k .if1 .left)) (omega (arith, line-fits (a .label .now))) _ _ _ (t .refused-line .ensures .0) (t .refused-line .ensures .1) (c .count2 .ensures)
+    line-written _ (a .out .now) (benchLine (a .label .now)) (refused-from _ _ _ _ (d .ensures .0) (d .ensures .1) (k .if1 .left)) (omega (arith, line-fits (a .label .now))) _ _ (t .refused-line .ensures) _
+    (c .bytes-written2 .ensures)
 
 pub answer-line-spec : {M : Type 1} → statement M
 answer-line-spec =
@@ -73,10 +75,10 @@ answer-line-spec =
     array-share-prefix-text
     slice-aggregate-text-line
     text-line-requires
-    count-requires
+    bytes-written-requires
     same-length
     returns
     refused-line-requires
-    count-requires-2
+    bytes-written-requires-2
     same-length-2
     returns-2)

@@ -2,7 +2,7 @@
 use mathlib.Core.Path.{sym, ap, _∙_}
 use native.Mathlib.Omega.{arith}
 use Rattle.utf16.specs.Answer.{pointsOutcome}
-use Rattle.firmware.proofs.Steps.{values-fit, values-long, values-are}
+use Rattle.basis.proofs.Outcome.{values-fit, values-long, values-are}
 use Rattle.firmware.proofs.WriteLaws.{points-count}
 use Rattle.bench_list.proofs.TextLines.{units-never-refused, same-line}
 use borrow.Author.Needs.{needs}

@@ -3,7 +3,9 @@ use Prim.Native.Nat.{_-_}
 use native.Mathlib.Omega.{arith}
 use lib.ListN.{length, take}
 use borrow.Author.Needs.{needs}
-use Rattle.bench_list.proofs.Answering.{Answering, answering-start, answering-end, answering-rest, answering-more, out-long, at-fits, room-left, line-kept, later, line-fits-in, line-long}
+use Rattle.lines.proofs.Taken.{later, line-fits, line-long}
+use Rattle.report.proofs.Filling.{out-long, at-fits, room-left}
+use Rattle.bench_list.proofs.Answering.{Answering, answering-start, answering-end, answering-rest, answering-more, line-kept}
 use Rattle.bench_list.proofs.chunks.answer_chunk.Statement.{statement}
 use Rattle.bench_list.proofs.chunks.answer_chunk.Tie as tie
 
@@ -26,7 +28,7 @@ same-length : tie.Need-same-length Inv-loop μ-loop
 same-length c = line-kept (c .before .before .before .before .before .before .before .before .loop .inv) _ (c .before .before .before .before .before .next-line .ensures .1)
 
 same-length-2 : tie.Need-same-length-2 Inv-loop μ-loop
-same-length-2 c = out-long (c .before .before .before .before .before .before .before .before .loop .inv) (c .before .before .before .before .before .before .before .before .before .before .before .before .pre .1)
+same-length-2 c = out-long (c .before .before .before .before .before .before .before .before .loop .inv .filling) (c .before .before .before .before .before .before .before .before .before .before .before .before .pre .1)
 
 returns : tie.Need-returns Inv-loop μ-loop
 returns c =
@@ -39,15 +41,17 @@ enum-known-step-2 c = search needs
 slice-reshare-prefix-answer-line : tie.Need-slice-reshare-prefix-answer-line Inv-loop μ-loop
 slice-reshare-prefix-answer-line c =
     let s = c .before .before .before .before .before in
-    line-fits-in (s .before .before .before .loop .inv) _ (s .next-line .ensures .1) _ _ _ (c .before .step2 .given .1) (s .next-line .ensures .0)
+    let l = s .before .before .before .loop in
+    line-fits _ (l .line) (l .kept) _ _ (s .next-line .ensures .1) _ (s .next-line .ensures .0) _ _ (c .before .step2 .given .1)
 
 slice-aggregate-answer-line : tie.Need-slice-aggregate-answer-line Inv-loop μ-loop
 slice-aggregate-answer-line c =
     let s = c .before .before .before .before .before .before in
-    line-long (s .before .before .before .loop .inv) _ (s .next-line .ensures .1) _ _ _ (c .before .before .step2 .given .1) (s .next-line .ensures .0)
+    let l = s .before .before .before .loop in
+    line-long _ (l .line) (l .kept) _ _ (s .next-line .ensures .1) _ (s .next-line .ensures .0) _ _ (c .before .before .step2 .given .1)
 
 sub-answer-line : tie.Need-sub-answer-line Inv-loop μ-loop
-sub-answer-line c = at-fits (c .before .before .before .before .before .before .before .before .before .loop .inv) (c .before .before .before .before .before .before .before .before .before .before .before .before .before .pre .1)
+sub-answer-line c = at-fits (c .before .before .before .before .before .before .before .before .before .loop .inv .filling) (c .before .before .before .before .before .before .before .before .before .before .before .before .before .pre .1)
 
 part-answer-line-start : tie.Need-part-answer-line-start Inv-loop μ-loop
 part-answer-line-start c = sub-answer-line c
@@ -58,7 +62,7 @@ part-answer-line-end c = search needs
 answer-line-requires : tie.Need-answer-line-requires Inv-loop μ-loop
 answer-line-requires c κs =
     let l = c .before .before .before .before .before .before .before .before .before .before in
-    room-left (l .loop .inv) (l .before .before .before .before .pre .1) (c .before .before .before .before .before .before .before .before .before .loop-test .taken)
+    room-left (l .loop .inv .filling) (l .before .before .before .before .pre .1) (c .before .before .before .before .before .before .before .before .before .loop-test .taken)
 
 loop-again : tie.Need-loop-again Inv-loop μ-loop
 loop-again c =
@@ -67,19 +71,20 @@ loop-again c =
     answering-more (s .before .before .before .loop .inv) _ (s .next-line .ensures .1) _ _ _ (c .before .before .before .before .before .before .step2 .given .1) (s .next-line .ensures .0) _ (a .1) _ (a .0)
 
 add-at : tie.Need-add-at Inv-loop μ-loop
-add-at c = let a = loop-again c in record { fits = omega (arith, a .room, a .within, c .before .before .before .before .before .before .before .before .before .before .before .before .before .before .before .before .before .pre .1) }
+add-at c = let a = loop-again c in record { fits = omega (arith, a .filling .room, a .filling .within, c .before .before .before .before .before .before .before .before .before .before .before .before .before .before .before .before .before .pre .1) }
 
 loop-less : tie.Need-loop-less Inv-loop μ-loop
 loop-less c =
     let s = c .before .before .before .before .before .before .before .before .before .before in
-    let n = later (s .before .before .before .loop .inv) _ (s .next-line .ensures .1) _ _ _ (c .before .before .before .before .before .before .step2 .given .1) (s .next-line .ensures .0) in
+    let l = s .before .before .before .loop in
+    let n = later _ (l .line) (l .kept) _ _ (s .next-line .ensures .1) _ (s .next-line .ensures .0) _ _ (c .before .before .before .before .before .before .step2 .given .1) in
     omega arith
 
 same-length-3 : tie.Need-same-length-3 Inv-loop μ-loop
 same-length-3 c = c .before .loop .inv .long
 
 same-length-4 : tie.Need-same-length-4 Inv-loop μ-loop
-same-length-4 c = out-long (c .before .loop .inv) (c .before .before .before .before .before .pre .1)
+same-length-4 c = out-long (c .before .loop .inv .filling) (c .before .before .before .before .before .pre .1)
 
 returns-2 : tie.Need-returns-2 Inv-loop μ-loop
 returns-2 c = answering-end (c .before .loop .inv) (c .loop-test .left)

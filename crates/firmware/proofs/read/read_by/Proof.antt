@@ -2,12 +2,13 @@
 use mathlib.Core.Path.{sym, ap, _∙_}
 use native.Mathlib.Omega.{arith}
 use borrow.Author.Needs.{needs}
-use Rattle.basis.specs.Outcome.{bytesOutcome, numberOf}
+use lib.ListN.{length}
+use Rattle.basis.specs.Outcome.{done, bytesOutcome, numberOf}
+use Rattle.basis.proofs.Outcome.{stop-below, pass-below, refusal-leaves, handed-leaves, values-fit, values-are}
 use Rattle.utf16.specs.Answer.{pointsOutcome}
 use Rattle.scheme.proofs.Capacity.{decoded-count, decoded-short}
 use Rattle.scheme.proofs.SchemeFacts.{decoded-text}
-use Rattle.firmware.proofs.Steps.{values-fit, values-are}
-use Rattle.firmware.proofs.ReadLaws.{read-1, read-refused, read-done}
+use Rattle.firmware.specs.Answer.{bytesOf, inBytes, readBy}
 use Rattle.firmware.proofs.read.read_by.Statement.{statement}
 use Rattle.firmware.proofs.read.read_by.Tie as tie
 
@@ -15,8 +16,8 @@ bytes-error-requires : tie.Need-bytes-error-requires
 bytes-error-requires c κs = search needs
 
 returns : tie.Need-returns
-unfolding bytesOutcome numberOf
-returns c = read-1 _ _ _ (omega arith) _ (ap bytesOutcome (c .bytes-error .ensures))
+unfolding bytesOutcome numberOf readBy
+returns c = refusal-leaves _ _ _ _ _ _ (ap bytesOutcome (c .bytes-error .ensures)) (stop-below _ _ _ _ 252 (c .before .if1 .taken))
 
 slice-aggregate-decode : tie.Need-slice-aggregate-decode
 slice-aggregate-decode c = search needs
@@ -47,22 +48,26 @@ put-text-requires c κs =
     )
 
 returns-2 : tie.Need-returns-2
-unfolding pointsOutcome bytesOutcome
+unfolding pointsOutcome bytesOutcome readBy inBytes
 returns-2 c =
-    let d = c .before .before .before .before .before .decode in
-    read-refused _ _ _ (omega arith) _ _ (sym (d .ensures .0) ∙ ap pointsOutcome (c .before .before .answer .given .1)) _ (ap bytesOutcome (c .bytes-error2 .ensures))
+    let d = c .before .before .before .before .before in
+    refusal-leaves _ _ _ _ _ _ (ap bytesOutcome (c .bytes-error2 .ensures))
+    (pass-below _ _ _ _ 252 (d .before .before .if1 .left) ∙ ap (inBytes _) (sym (d .decode .ensures .0) ∙ ap pointsOutcome (c .before .before .answer .given .1)))
 
 same-length : tie.Need-same-length
 same-length c = search needs
 
 returns-3 : tie.Need-returns-3
-unfolding pointsOutcome
+unfolding pointsOutcome readBy inBytes
 returns-3 c =
     let p = c .before .before .put-text .ensures in
     let e = c .before .before .before in
-    let d = e .before .before .before .before .before .before .decode in
-    let is = sym (d .ensures .0) ∙ ap pointsOutcome (e .before .before .before .answer2 .given .1) in
-    read-done _ _ _ (omega arith) _ is _ (values-are _ _ _ _ _ is (decoded-count _ _ _ _ is) (d .ensures .1)) _ _ (p .0) (p .1)
+    let d = e .before .before .before .before .before .before in
+    let is = sym (d .decode .ensures .0) ∙ ap pointsOutcome (e .before .before .before .answer2 .given .1) in
+    let text = values-are _ _ _ _ _ is (decoded-count _ _ _ _ is) (d .decode .ensures .1) in
+    handed-leaves _ _ _ _ _ _ _
+    (pass-below _ _ _ _ 252 (d .before .before .if1 .left) ∙ ap (inBytes _) is ∙ ap (λ t. done (length (bytesOf t))) (sym text))
+    (ap bytesOf (sym text)) p
 
 pub read-by-spec : {M : Type 1} → statement M
 read-by-spec =

@@ -4,7 +4,7 @@ use native.Mathlib.Omega.{arith}
 use borrow.Author.Needs.{needs}
 use Rattle.basis.specs.Outcome.{bytesOutcome}
 use Rattle.utf16.specs.Answer.{pointsOutcome}
-use Rattle.firmware.proofs.Steps.{values-fit, values-long, values-are}
+use Rattle.basis.proofs.Outcome.{values-fit, values-long, values-are}
 use Rattle.firmware.proofs.WriteLaws.{points-count, units-refused, units-written}
 use Rattle.firmware.proofs.write.write_units.Statement.{statement}
 use Rattle.firmware.proofs.write.write_units.Tie as tie

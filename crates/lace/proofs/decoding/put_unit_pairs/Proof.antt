@@ -1,16 +1,18 @@
 -- What is left are the units of the octets from `2 * i` on.
 use Prim.Native.Nat.{_/_, _+_, _*_, _-_, _≤_}
+use mathlib.Core.Path.{refl, sym}
 use lib.ListN.{length, drop}
 use borrow.Author.Needs.{needs}
 use native.Mathlib.Omega.{arith}
 use Rattle.basis.proofs.Stores.{Storing, storing-all}
-use Rattle.lace.specs.Decoding.{unitPairs}
-use Rattle.lace.proofs.DecodeLaws.{pairs-turn, pairs-end}
+use Rattle.wire.specs.Bytes.{toUnits}
+use Rattle.wire.proofs.RoundTrip.{length-toUnits}
+use Rattle.wire.proofs.Stores.{unit-turn, unit-end}
 use Rattle.lace.proofs.decoding.put_unit_pairs.Statement.{statement}
 use Rattle.lace.proofs.decoding.put_unit_pairs.Tie as tie
 
 abbrev Inv-loop : tie.InvT-loop
-Inv-loop octets units₀ n i₀ units i = Storing units₀ (unitPairs octets) units i (unitPairs (drop (2 * i) octets)) × (i ≤ length octets / 2)
+Inv-loop octets units₀ n i₀ units i = Storing units₀ (toUnits octets) units i (toUnits (drop (2 * i) octets)) × (i ≤ length octets / 2)
 
 abbrev μ-loop : tie.MeasureT-loop
 μ-loop octets units₀ n i₀ units i = length octets / 2 - i
@@ -58,13 +60,15 @@ loop-less : tie.Need-loop-less Inv-loop μ-loop
 loop-less c = search needs
 
 loop-again : tie.Need-loop-again Inv-loop μ-loop
-loop-again c = let l = c .before .before .before .loop in (pairs-turn _ _ _ _ (l .inv .0) (omega arith), omega arith)
+loop-again c = let l = c .before .before .before .loop in (unit-turn _ _ _ _ (l .inv .0) (omega arith) _ refl, omega arith)
 
 same-length : tie.Need-same-length Inv-loop μ-loop
 same-length c = c .before .loop .inv .0 .long
 
 returns : tie.Need-returns Inv-loop μ-loop
-returns c = pairs-end _ _ _ _ (c .before .loop .inv .0) (c .loop-test .left) (c .before .loop .inv .1) (omega arith)
+returns c =
+    let e = unit-end _ _ _ _ (c .before .loop .inv .0) (c .loop-test .left) (omega arith) in
+    (sym (length-toUnits _), e .1)
 
 pub put-unit-pairs-spec : {M : Type 1} → statement M
 put-unit-pairs-spec =

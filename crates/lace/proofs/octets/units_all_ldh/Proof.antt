@@ -1,13 +1,15 @@
 -- The loop passes LDH numbers; the first that is not answers.
 use Prim.Native.Nat.{ℕ, _-_, _≤_, _<_}
-use mathlib.Core.Path.{_≡_}
+use mathlib.Core.Path.{_≡_, sym, _∙_}
 use mathlib.Core.Bool.{true}
 use lib.ListN.{length, getD}
 use borrow.Author.Count.{below-none, below-more}
 use borrow.Author.Needs.{needs}
+use borrow.Author.Tests.{not-true, not-false}
 use native.Mathlib.Omega.{arith}
+use Rattle.basis.proofs.Tests.{each-at, not-each}
 use Rattle.utf16.specs.Points.{isLdh}
-use Rattle.lace.proofs.RowTests.{ldh-not, ldh-all, ldh-passed}
+use Rattle.lace.specs.Octets.{isAllLdh}
 use Rattle.lace.proofs.octets.units_all_ldh.Statement.{statement}
 use Rattle.lace.proofs.octets.units_all_ldh.Tie as tie
 
@@ -33,9 +35,10 @@ is-ldh-requires : tie.Need-is-ldh-requires Inv-loop μ-loop
 is-ldh-requires c κs = search needs
 
 returns : tie.Need-returns Inv-loop μ-loop
+unfolding isAllLdh
 returns c =
     let l = c .before .before .before .before .loop in
-    ldh-not _ (l .i) (omega arith) _ (c .before .is-ldh .ensures) (c .if1 .taken)
+    sym (not-each _ _ (l .i) (omega arith) (sym (c .before .is-ldh .ensures) ∙ not-true _ (c .if1 .taken)))
 
 add-i : tie.Need-add-i Inv-loop μ-loop
 add-i c = search needs
@@ -45,12 +48,11 @@ loop-less c = search needs
 
 loop-again : tie.Need-loop-again Inv-loop μ-loop
 loop-again c =
-    (omega arith, below-more _ _ (c .before .before .before .before .loop .inv .1) (ldh-passed _ _ (c .before .is-ldh .ensures) (c .if1 .left)))
+    (omega arith, below-more _ _ (c .before .before .before .before .loop .inv .1) (sym (c .before .is-ldh .ensures) ∙ not-false _ (c .if1 .left)))
 
 returns-2 : tie.Need-returns-2 Inv-loop μ-loop
-returns-2 c =
-    let l = c .before .loop in
-    ldh-all _ (l .i) (omega arith) (l .inv .0) (l .inv .1)
+unfolding isAllLdh
+returns-2 c = sym (each-at _ _ (λ k h. c .before .loop .inv .1 k (omega arith)))
 
 pub units-all-ldh-spec : {M : Type 1} → statement M
 units-all-ldh-spec =

@@ -1,7 +1,8 @@
 -- `book::put_entries` meets its contract: the lines of the first `i` entries stand in front of the output.
 use Prim.Native.Nat.{_-_}
 use native.Mathlib.Omega.{arith}
-use Rattle.nametable_list.proofs.Listing.{has-entry, Listed, listed-start, listed-end, out-long, at-fits, room-left, listed-more}
+use Rattle.report.proofs.Filling.{out-long, at-fits, room-left}
+use Rattle.nametable_list.proofs.Listing.{has-entry, Listed, listed-start, listed-end, listed-more}
 use borrow.Author.Needs.{needs}
 use Rattle.nametable_list.proofs.book.put_entries.Statement.{statement}
 use Rattle.nametable_list.proofs.book.put_entries.Tie as tie
@@ -34,7 +35,7 @@ loop-again : tie.Need-loop-again Inv-loop μ-loop
 loop-again c =
     let l = c .before .before .before .before .before in
     let e = c .before .before .put-entry .ensures in
-    listed-more (l .loop .inv) (c .before .before .before .before .before .before .before .before .pre .0) (omega arith) _ (e .1) _ (e .0)
+    listed-more _ (l .loop .inv) (c .before .before .before .before .before .before .before .before .pre .0) (omega arith) _ (e .1) _ (e .0)
 
 add-at : tie.Need-add-at Inv-loop μ-loop
 add-at c = let l = loop-again c in record { fits = omega (arith, l .room, l .within, c .before .before .before .before .before .before .before .before .pre .1) }
@@ -49,7 +50,7 @@ same-length : tie.Need-same-length Inv-loop μ-loop
 same-length c = out-long (c .before .loop .inv) (c .before .before .before .before .pre .1)
 
 returns : tie.Need-returns Inv-loop μ-loop
-returns c = listed-end (c .before .loop .inv) (omega arith)
+returns c = listed-end _ (c .before .loop .inv) (omega arith)
 
 pub put-entries-spec : {M : Type 1} → statement M
 put-entries-spec =

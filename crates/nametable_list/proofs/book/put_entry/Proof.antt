@@ -1,8 +1,8 @@
 -- `book::put_entry` meets its contract: the entry is found, and its line is written whole.
 use native.Mathlib.Omega.{arith}
+use Rattle.report.proofs.LineLaws.{line-written}
 use Rattle.nametable_list.specs.Listing.{entryLine}
 use Rattle.nametable_list.proofs.EntryLines.{line-fits, never-error, points-fit, points-long, line-is}
-use Rattle.nametable_list.proofs.Listing.{whole-line}
 use borrow.Author.Needs.{needs}
 use Rattle.nametable_list.proofs.book.put_entry.Statement.{statement}
 use Rattle.nametable_list.proofs.book.put_entry.Tie as tie
@@ -35,8 +35,8 @@ slice-aggregate-list-line c =
 list-line-requires : tie.Need-list-line-requires
 list-line-requires c κs = search needs
 
-count-requires : tie.Need-count-requires
-count-requires c κs = search needs
+bytes-written-requires : tie.Need-bytes-written-requires
+bytes-written-requires c κs = search needs
 
 returns : tie.Need-returns
 returns c =
@@ -53,9 +53,9 @@ returns-2 c =
     let e = p .before .before .before .before .before .entry .ensures in
     let r = c .before .before .before .list-line .ensures in
     let a = s .args in
-    whole-line _ (entryLine (a .table .now) (a .index)) (a .out .now)
+    line-written _ (a .out .now) (entryLine (a .table .now) (a .index))
     (line-is _ _ (s .pre .0) _ (omega arith) _ (e .0) _ _ _ (p .before .before .answer .given .1) _ _ (e .1) _ (p .letter .ensures))
-    (omega (arith, line-fits (a .table .now) (a .index) (s .pre .0))) _ _ _ (r .0) (r .1) (c .count .ensures)
+    (omega (arith, line-fits (a .table .now) (a .index) (s .pre .0))) _ _ r _ (c .bytes-written .ensures)
 
 pub put-entry-spec : {M : Type 1} → statement M
 put-entry-spec =
@@ -69,7 +69,7 @@ put-entry-spec =
     array-share-prefix-points
     slice-aggregate-list-line
     list-line-requires
-    count-requires
+    bytes-written-requires
     returns
     same-length
     returns-2)

@@ -5,7 +5,8 @@ use lib.ListN.{length}
 use native.Mathlib.Omega.{arith}
 use Rattle.basis.specs.Outcome.{numberOf}
 use Rattle.report.specs.Lines.{refusedAtLine}
-use Rattle.nametable_list.proofs.Listing.{whole-line, refusal-fits}
+use Rattle.report.proofs.LineLaws.{line-written}
+use Rattle.nametable_list.proofs.Listing.{refusal-fits}
 use borrow.Author.Needs.{needs}
 use Rattle.nametable_list.proofs.book.put_refusal.Statement.{statement}
 use Rattle.nametable_list.proofs.book.put_refusal.Tie as tie
@@ -16,8 +17,8 @@ code-number-requires c κs = search needs
 refused-at-line-requires : tie.Need-refused-at-line-requires
 refused-at-line-requires c κs = search needs
 
-count-requires : tie.Need-count-requires
-count-requires c κs = search needs
+bytes-written-requires : tie.Need-bytes-written-requires
+bytes-written-requires c κs = search needs
 
 same-length : tie.Need-same-length
 same-length c = search needs
@@ -29,9 +30,9 @@ returns c =
     let r = c .before .before .before .refused-at-line .ensures in
     let same : n .result ≡ numberOf (a .code) = n .ensures in
     let fits : length (refusedAtLine (n .result) (a .position)) ≤ length (a .out .now) = omega (arith, refusal-fits (n .result) (a .position) (omega arith) (omega arith)) in
-    whole-line _ (refusedAtLine (numberOf (a .code)) (a .position)) (a .out .now) (ap (λ (k : ℕ). refusedAtLine k (a .position)) same) (rw same at fits) _ _ _ (r .0) (r .1) (c .count .ensures)
+    line-written _ (a .out .now) (refusedAtLine (numberOf (a .code)) (a .position)) (ap (λ (k : ℕ). refusedAtLine k (a .position)) same) (rw same at fits) _ _ r _ (c .bytes-written .ensures)
 
 pub put-refusal-spec : {M : Type 1} → statement M
 put-refusal-spec =
     tie.close
-    (tie.spec code-number-requires refused-at-line-requires count-requires same-length returns)
+    (tie.spec code-number-requires refused-at-line-requires bytes-written-requires same-length returns)

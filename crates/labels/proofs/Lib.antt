@@ -1,0 +1,2 @@
+-- The laws on the first tests.
+pub mod FirstTests
