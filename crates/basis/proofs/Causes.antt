@@ -2,30 +2,28 @@
 use Prim.Native.Nat.{ℕ, _<_}
 use mathlib.Core.Path.{_≡_, refl, sym, ap, ap₂, _∙_, subst}
 use mathlib.Core.Bool.{Bool, true, false}
-use mathlib.Core.Logic.{_↔_, inl, inr}
+use mathlib.Core.Logic.{_↔_, _⊎_, inl, inr, ⊎-elim}
 use mathlib.Core.List.{List, [], _∷_}
 use lib.Dec.{ltb}
 use borrow.Author.Tests.{ltb-true, ltb-false, lt-ltb}
 use native.Mathlib.Omega.{arith}
 use Rattle.basis.specs.Tests.{firstBelow, IsFirst}
 use Rattle.basis.specs.Outcome.{Outcome, done, refused, refusedIf}
-use Rattle.basis.specs.Causes.{Cause, whole, placed, Absent, FirstCause, Settles}
+use Rattle.basis.specs.Causes.{Cause, whole, placed, moved, movedAll, Absent, NoCause, FirstCause, Settles}
+use Rattle.basis.proofs.Outcome.{done-not-refused}
 use Rattle.basis.proofs.Tests.{cases, by-lt, true-not-false, first-le, first-is, first-at}
-
-done-not-refused : {n number position : ℕ} → done n ≡ refused number position → ⊥
-done-not-refused e = let z : _≡_ {A = ℕ} 0 1 = cc in omega arith
 
 -- with no cause left, the outcome is done
 pub settle-done : (count : ℕ) → Settles [] count (done count)
 settle-done count = record {
-  refuses = λ number position. (λ e. done-not-refused e, λ f. absurd f);
+  refuses = λ number position. (λ e. done-not-refused refl e, λ f. absurd f);
   succeeds = λ n. (λ e. (tt, cc), λ p. let e = p .1 in cc);
 }
 
 -- a cause that stands, and stands at one position alone
 settle-yes : (c : Cause) (position : ℕ) {causes : List Cause} {count : ℕ}
     → c .StandsAt position → ((p : ℕ) → c .StandsAt p → p ≡ position) → Settles (c ∷ causes) count (refused (c .number) position)
-settle-yes c position {causes} {count} stands only = record { refuses = λ number p. (there number p, back number p); succeeds = λ n. (λ e. absurd (done-not-refused (sym e)), λ q. absurd (q .0 .0 position stands)) }
+settle-yes c position {causes} {count} stands only = record { refuses = λ number p. (there number p, back number p); succeeds = λ n. (λ e. absurd (done-not-refused e refl), λ q. absurd (q .0 .0 position stands)) }
   where
     there : (number p : ℕ) → refused (c .number) position ≡ refused number p → FirstCause (c ∷ causes) number p
     there number p e =
@@ -47,6 +45,77 @@ settle-no c {causes} {count} {outcome} absent s = record {
     back : (number p : ℕ) → FirstCause (c ∷ causes) number p → outcome ≡ refused number p
     back number p (inl f) = absurd (absent p (f .1))
     back number p (inr f) = s .refuses number p .1 (f .1)
+
+-- a cause that stands nowhere may be left out
+pub settle-without : (c : Cause) {causes : List Cause} {count : ℕ} {outcome : Outcome} → Absent c → Settles (c ∷ causes) count outcome → Settles causes count outcome
+settle-without c {causes} {count} {outcome} absent s = record {
+  refuses = λ number p. (λ e. there number p (s .refuses number p .0 e), λ f. s .refuses number p .1 (inr (absent, f)));
+  succeeds = λ n. (λ e. let q = s .succeeds n .0 e in (q .0 .1, q .1), λ q. s .succeeds n .1 ((absent, q .0), q .1));
+}
+  where
+    there : (number p : ℕ) → FirstCause (c ∷ causes) number p → FirstCause causes number p
+    there number p (inl f) = absurd (absent p (f .1))
+    there number p (inr f) = f .1
+
+-- causes that were moved stand exactly where those of the row do
+module _ (f : ℕ → ℕ) where
+  absent-moved : (c : Cause) → Absent c → Absent (moved f c)
+  absent-moved c absent position h = absent (h .0) (h .2)
+
+  moved-absent : (c : Cause) → Absent (moved f c) → Absent c
+  moved-absent c absent p s = absent (f p) (p, refl, s)
+
+  settle-none : (cs : List Cause) {later : List Cause} {count : ℕ} {outcome : Outcome} → NoCause cs → Settles later count outcome → Settles (movedAll f cs later) count outcome
+  settle-none [] none s = s
+  settle-none (c ∷ cs) none s = settle-no (moved f c) (absent-moved c (none .0)) (settle-none cs (none .1) s)
+
+  first-moved : (cs later : List Cause) (number p : ℕ) → FirstCause cs number p → FirstCause (movedAll f cs later) number (f p)
+  first-moved [] later number p h = absurd h
+  first-moved (c ∷ cs) later number p (inl h) = inl (h .0, (p, refl, h .1))
+  first-moved (c ∷ cs) later number p (inr h) = inr (absent-moved c (h .0), first-moved cs later number p (h .1))
+
+  moved-first : (cs later : List Cause) (number position : ℕ) → FirstCause (movedAll f cs later) number position
+      → ((p : ℕ) × (position ≡ f p) × FirstCause cs number p) ⊎ (NoCause cs × FirstCause later number position)
+  moved-first [] later number position h = inr (tt, h)
+  moved-first (c ∷ cs) later number position (inl h) = inl (h .1 .0, h .1 .1, inl (h .0, h .1 .2))
+  moved-first (c ∷ cs) later number position (inr h) =
+      ⊎-elim (λ g. inl (g .0, g .1, inr (moved-absent c (h .0), g .2))) (λ g. inr ((moved-absent c (h .0), g .0), g .1)) (moved-first cs later number position (h .1))
+
+some-cause : (cs : List Cause) (number p : ℕ) → FirstCause cs number p → NoCause cs → ⊥
+some-cause [] number p h none = h
+some-cause (c ∷ cs) number p (inl h) none = none .0 p (h .1)
+some-cause (c ∷ cs) number p (inr h) none = some-cause cs number p (h .1) (none .1)
+
+-- an outcome whose refusals are told at other positions, and after which another decides
+unfoldable pub thenMoved : (ℕ → ℕ) → Outcome → Outcome → Outcome
+thenMoved f (done n) next = next
+thenMoved f (refused number p) next = refused number (f p)
+
+pub settle-moved : (f : ℕ → ℕ) (cs later : List Cause) (count total : ℕ) (outcome next : Outcome) → Settles cs count outcome
+    → ((n : ℕ) → outcome ≡ done n → Settles later total next) → Settles (movedAll f cs later) total (thenMoved f outcome next)
+unfolding thenMoved
+settle-moved f cs later count total (done n) next s rest = settle-none f cs (s .succeeds n .0 refl .0) (rest n refl)
+settle-moved f cs later count total (refused number p) next s rest = record {
+  refuses = λ k q. (there k q, λ h. back k q (moved-first f cs later k q h));
+  succeeds = λ n. (λ e. absurd (done-not-refused e refl), λ h. absurd (some-cause (movedAll f cs later) number (f p) first (h .0)));
+}
+  where
+    first : FirstCause (movedAll f cs later) number (f p)
+    first = first-moved f cs later number p (s .refuses number p .0 refl)
+
+    there : (k q : ℕ) → refused number (f p) ≡ refused k q → FirstCause (movedAll f cs later) k q
+    there k q e =
+        let m : number ≡ k = cc in
+        let o : f p ≡ q = cc in
+        subst (λ (x : ℕ). FirstCause (movedAll f cs later) k x) o (subst (λ (x : ℕ). FirstCause (movedAll f cs later) x (f p)) m first)
+
+    back : (k q : ℕ) → ((r : ℕ) × (q ≡ f r) × FirstCause cs k r) ⊎ (NoCause cs × FirstCause later k q) → refused number (f p) ≡ refused k q
+    back k q (inl h) =
+        let e : refused number p ≡ refused k (h .0) = s .refuses k (h .0) .1 (h .2) in
+        let m : number ≡ k = cc in
+        let o : p ≡ h .0 = cc in
+        ap₂ refused m (ap f o ∙ sym (h .1))
+    back k q (inr h) = absurd (some-cause cs number p (s .refuses number p .0 refl) (h .0))
 
 -- a test that holds exactly where the cause stands; if it fails, the later causes settle the rest
 pub settle-if : (test : Bool) (c : Cause) (position : ℕ) {causes : List Cause} {count : ℕ} {next : Outcome}

@@ -18,6 +18,15 @@ whole number Stands = record { number = number; StandsAt = λ position. (positio
 abbrev pub placed : ℕ → (ℕ → Type 0) → Cause
 placed number StandsAt = record { number = number; StandsAt = StandsAt }
 
+-- a cause whose position is told as another
+abbrev pub moved : (ℕ → ℕ) → Cause → Cause
+moved f c = placed (c .number) (λ position. (p : ℕ) × (position ≡ f p) × c .StandsAt p)
+
+-- the causes of a row, moved, before the later ones
+abbrev pub movedAll : (ℕ → ℕ) → List Cause → List Cause → List Cause
+movedAll f [] later = later
+movedAll f (c ∷ cs) later = moved f c ∷ movedAll f cs later
+
 -- the cause stands nowhere
 abbrev pub Absent : Cause → Type 0
 Absent c = (position : ℕ) → c .StandsAt position → ⊥

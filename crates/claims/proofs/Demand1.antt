@@ -44,6 +44,7 @@ use Rattle.nametable.specs.Format.{countOf, readerOf, lengthOf, labelIn, scheme
 use Rattle.nametable.specs.Answer.{labelJudged, entryJudged, thenEntries, entriesJudged, readOutcome, findOutcome, entryIn, counted, entryText}
 use Rattle.nametable.proofs.EntryLaws.{label-long}
 use Rattle.nametable.proofs.Whole.{found-count, found-short}
+use Rattle.nametable.proofs.Settled.{read-settled, find-settled}
 use Rattle.nametable.proofs.Truncation.{truncated, truncated-entry, prefix-truncated, prefix-truncated-entry}
 use Rattle.wire.specs.Bytes as wire
 use Rattle.wire.specs.Answer as wire-answer
@@ -376,6 +377,8 @@ demand1 = record {
   schemeDecode = scheme-decode;
   tableRead = table-read;
   tableEntry = table-entry;
+  tableReadOrder = read-settled;
+  tableEntryOrder = find-settled;
   bytesToUnits = bytes-to-units;
   unitsToBytes = units-to-bytes;
   write = firmware-write;

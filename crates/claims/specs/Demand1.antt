@@ -1,7 +1,7 @@
 -- Demand 1: what every entry answers and leaves, whatever it is given, and that a table that is cut is refused as cut. The outcomes and
 -- the values are the definitions that the contracts cite. The order of the refusals is that of their tests; by causes it is said of the
--- converter here, and of the schemes in demand 2. That a call ends and stays inside what it was lent is what the checker proves of
--- each function.
+-- converter and of the table here, and of the schemes in demand 2. That a call ends and stays inside what it was lent is what the checker
+-- proves of each function.
 use Prim.Native.Nat.{ℕ, _+_, _*_, _≤_, _<_}
 use mathlib.Core.Path.{_≡_}
 use mathlib.Core.Bool.{Bool, true, false, _||_}
@@ -30,6 +30,7 @@ use Rattle.scheme.specs.declared.Scheme.the-variants.{Altdude, Lace}
 use Rattle.scheme.specs.Coding as scheme
 use Rattle.nametable.specs.Format as nametable
 use Rattle.nametable.specs.Answer.{readOutcome, notFound, findOutcome, counted, entryText}
+use Rattle.nametable.specs.Causes.{tableCauses, findCauses}
 use Rattle.wire.specs.Bytes as wire
 use Rattle.wire.specs.Answer as wire-answer
 use Rattle.firmware.specs.Answer.{answerOf, writeOutcome, writtenLabel, readText}
@@ -129,6 +130,10 @@ pub record Demand1 : Type 0 where
   pub tableRead : (table : List ℕ) → Listed tableCodes (readOutcome table)
   pub tableEntry : (table : List ℕ) (index : ℕ) (text : List ℕ)
       → Answers (1 ∷ tableCodes) (counted (findOutcome table index (length text))) (entryText table index) text
+  -- its order: the header's, then entry by entry, and for one entry 1 before and the index after
+  pub tableReadOrder : (table : List ℕ) → Settles (tableCauses table) (nametable.countOf table) (readOutcome table)
+  pub tableEntryOrder : (table : List ℕ) (index capacity : ℕ)
+      → Settles (findCauses table index capacity) (length (entryText table index)) (counted (findOutcome table index capacity))
   -- wire
   pub bytesToUnits : (bytes units : List ℕ)
       → Answers (1 ∷ 12 ∷ []) (wire-answer.toUnitsOutcome bytes (length units)) (wire.toUnits bytes) units

@@ -2,17 +2,16 @@
 use Prim.Native.Nat.{ℕ, _≤_, _<_}
 use mathlib.Core.Path.{_≡_, refl}
 use mathlib.Core.Bool.{true, false}
-use mathlib.Core.Logic.{inl, inr}
 use mathlib.Core.List.{List, _∷_}
 use lib.Dec.{eqb, ltb}
 use lib.ListN.{length}
 use borrow.Author.Tests.{ltb-false, eq-eqb, ne-eqb}
 use native.Mathlib.Omega.{arith}
 use Rattle.basis.specs.Outcome.{Outcome, done, refused, refusedIf}
-use Rattle.basis.specs.Causes.{Cause, whole, Absent, FirstCause, Settles}
+use Rattle.basis.specs.Causes.{Cause, whole, Settles}
 use Rattle.basis.proofs.Tests.{by-lt, ltb-iff, eqb-iff}
 use Rattle.basis.proofs.Outcome.{done-not-refused}
-use Rattle.basis.proofs.Causes.{settle-whole, settle-first}
+use Rattle.basis.proofs.Causes.{settle-without, settle-whole, settle-first}
 use Rattle.utf16.specs.Units.{unpairedAt, firstUnpaired}
 use Rattle.wire.specs.Bytes.{toUnits}
 use Rattle.wire.specs.Answer.{isOdd}
@@ -25,17 +24,6 @@ use Rattle.scheme.specs.declared.Scheme.the-variants.{Altdude, Lace}
 use Rattle.scheme.specs.declared.Named.the-variants.{Known, Unknown}
 use Rattle.firmware.specs.Answer.{ifKnown, madeBy, pointsOf, bytesOf, writeUnits, writeBy, writeOutcome, writtenLabel, inBytes, readBy, readOutcome, readText}
 use Rattle.firmware.specs.Causes.{UnknownNumber, causesBy, bytesCauses, writeCauses, readCauses}
-
--- a cause that stands nowhere may be left out
-settle-without : (c : Cause) {causes : List Cause} {count : ℕ} {outcome : Outcome} → Absent c → Settles (c ∷ causes) count outcome → Settles causes count outcome
-settle-without c {causes} {count} {outcome} absent s = record {
-  refuses = λ number p. (λ e. there number p (s .refuses number p .0 e), λ f. s .refuses number p .1 (inr (absent, f)));
-  succeeds = λ n. (λ e. let q = s .succeeds n .0 e in (q .0 .1, q .1), λ q. s .succeeds n .1 ((absent, q .0), q .1));
-}
-  where
-    there : (number p : ℕ) → FirstCause (c ∷ causes) number p → FirstCause causes number p
-    there number p (inl f) = absurd (absent p (f .1))
-    there number p (inr f) = f .1
 
 -- the same causes settle an outcome with another count
 settle-counted : (bytes : List ℕ) {causes : List Cause} (count : ℕ) (outcome : Outcome) → Settles causes count outcome → Settles causes (length bytes) (inBytes bytes outcome)

@@ -3,4 +3,5 @@ pub mod EntryLaws
 pub mod FindLaws
 pub mod TableLaws
 pub mod Truncation
+pub mod Settled
 pub mod Whole
