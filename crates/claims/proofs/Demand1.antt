@@ -22,6 +22,7 @@ use Rattle.base32.specs.Alphabet as alphabet
 use Rattle.base32.specs.Form.{octetCount}
 use Rattle.base32.specs.Base32.{charactersOf, toOctets}
 use Rattle.base32.specs.Answer as base32
+use Rattle.base32.proofs.Outcomes.{encode-settled, decode-settled}
 use Rattle.base32.proofs.Regroup.{length-toOctets}
 use Rattle.base32.proofs.Values.{length-values, length-charactersOf}
 use Rattle.altdude.specs.Encoding as altdude-encoding
@@ -367,6 +368,8 @@ demand1 = record {
   toPointsOrder = to-points-settled;
   base32Encode = base32-encode;
   base32Decode = base32-decode;
+  base32EncodeOrder = encode-settled;
+  base32DecodeOrder = decode-settled;
   checkText = check-text;
   checkLabel = check-label;
   altdudeEncode = scheme-encode Altdude;

@@ -1,7 +1,7 @@
 -- Demand 1: what every entry answers and leaves, whatever it is given, and that a table that is cut is refused as cut. The outcomes and
 -- the values are the definitions that the contracts cite. The order of the refusals is that of their tests; by causes it is said of the
--- converter and of the table here, and of the schemes in demand 2. That a call ends and stays inside what it was lent is what the checker
--- proves of each function.
+-- converter, of Base32 and of the table here, and of the schemes and the C interface in demand 2. That a call ends and stays inside what
+-- it was lent is what the checker proves of each function.
 use Prim.Native.Nat.{ℕ, _+_, _*_, _≤_, _<_}
 use mathlib.Core.Path.{_≡_}
 use mathlib.Core.Bool.{Bool, true, false, _||_}
@@ -15,8 +15,10 @@ use Rattle.utf16.specs.Units as utf16
 use Rattle.utf16.specs.Answer as utf16-answer
 use Rattle.utf16.specs.Causes.{toUnitsCauses, toPointsCauses}
 use Rattle.base32.specs.Alphabet as alphabet
-use Rattle.base32.specs.Base32.{charactersOf, toOctets}
+use Rattle.base32.specs.Form.{octetCount}
+use Rattle.base32.specs.Base32.{quintetCount, charactersOf, toOctets}
 use Rattle.base32.specs.Answer as base32
+use Rattle.base32.specs.Causes.{encodeCauses, decodeCauses}
 use Rattle.labels.specs.Tests.{textTests, labelTests}
 use Rattle.altdude.specs.Encoding as altdude-encoding
 use Rattle.altdude.specs.Decoding as altdude-decoding
@@ -110,6 +112,10 @@ pub record Demand1 : Type 0 where
       → Answers (1 ∷ []) (base32.encodeOutcome octets (length characters)) (charactersOf alphabet.lace octets) characters
   pub base32Decode : (characters octets : List ℕ)
       → Answers (1 ∷ 7 ∷ 9 ∷ []) (base32.decodeOutcome characters (length octets)) (toOctets (alphabet.valuesOf alphabet.lace characters)) octets
+  -- its order: 1, then 7 and 9 of reading
+  pub base32EncodeOrder : (octets : List ℕ) (capacity : ℕ) → Settles (encodeCauses octets capacity) (quintetCount (length octets)) (base32.encodeOutcome octets capacity)
+  pub base32DecodeOrder : (characters : List ℕ) (capacity : ℕ)
+      → Settles (decodeCauses characters capacity) (octetCount (length characters)) (base32.decodeOutcome characters capacity)
   -- labels: what the first tests come to where nothing follows
   pub checkText : (capacity : ℕ) (text : List ℕ) → Listed (1 ∷ 2 ∷ 4 ∷ []) (textTests capacity text (done 0))
   pub checkLabel : (capacity bytes : ℕ) → Listed (1 ∷ 2 ∷ 3 ∷ []) (labelTests capacity bytes (done 0))
