@@ -14,36 +14,52 @@ extern "C" {
 #define DISTELHUT_SCHEME_ALTDUDE 1u
 #define DISTELHUT_SCHEME_LACE 2u
 
-/* The least lengths of the buffers that are written to, in bytes, whatever the content. */
-#define DISTELHUT_LABEL_CAPACITY 63u
-#define DISTELHUT_TEXT_CAPACITY 252u
-
-/* An answer from here on is a refusal: 1000 and the refusal's number. Any answer below is the number of bytes written. */
-#define DISTELHUT_REFUSED 1000u
-
-/* The refusals' numbers. The two functions below never answer 4, 13 or 14. */
-#define DISTELHUT_CAPACITY 1u            /* the buffer to write to is too short */
-#define DISTELHUT_EMPTY 2u               /* the text or the label is empty */
-#define DISTELHUT_TOO_LONG 3u            /* the label is over 63 bytes, given or needed, or the text is over 252 bytes */
-#define DISTELHUT_NOT_A_POINT 4u         /* a number is no Unicode scalar value */
-#define DISTELHUT_EDGE_HYPHEN 5u         /* an AltDUDE text or label begins or ends with a hyphen */
-#define DISTELHUT_ALL_LDH 6u             /* a LACE text has only letters a to z and A to Z, digits and hyphens */
-#define DISTELHUT_OUTSIDE_ALPHABET 7u    /* a byte of the label is none of the scheme's characters */
-#define DISTELHUT_NO_PREFIX 8u           /* a LACE label does not begin with lq-- */
-#define DISTELHUT_NOT_WELL_FORMED 9u     /* the scheme's rules of form do not admit the label */
-#define DISTELHUT_UNPAIRED_SURROGATE 10u /* a UTF-16 surrogate of the text has no partner */
-#define DISTELHUT_UNKNOWN_SCHEME 11u     /* the scheme number is none of 0, 1 and 2 */
-#define DISTELHUT_ODD_BYTE_COUNT 12u     /* the text has an odd number of bytes */
-#define DISTELHUT_TRUNCATED 13u          /* a book of names was cut */
-#define DISTELHUT_MALFORMED 14u          /* a book of names is badly formed */
+/* The least sizes of the buffers that are written to, in bytes, whatever the content. */
+#define DISTELHUT_SIZE_LABEL 63u
+#define DISTELHUT_SIZE_TEXT 252u
 
 /*
+ * Answers. Below DISTELHUT_ERR_BASE an answer is the number of bytes written, 1 or more. From there on it is a refusal:
+ * 1000 and the refusal's number, which is one of the following.
+ */
+#define DISTELHUT_ERR_BASE 1000u
+#define DISTELHUT_ERR_CAPACITY 1001u           /* the buffer to write to is too short */
+#define DISTELHUT_ERR_EMPTY 1002u              /* the text or the label is empty */
+#define DISTELHUT_ERR_TOO_LONG 1003u           /* the label is over 63 bytes, given or needed, or the text is over 252 bytes */
+#define DISTELHUT_ERR_EDGE_HYPHEN 1005u        /* an AltDUDE text or label begins or ends with a hyphen */
+#define DISTELHUT_ERR_ALL_LDH 1006u            /* a LACE text has only letters a to z and A to Z, digits and hyphens */
+#define DISTELHUT_ERR_OUTSIDE_ALPHABET 1007u   /* a byte of the label is none of the scheme's characters */
+#define DISTELHUT_ERR_NO_PREFIX 1008u          /* a LACE label does not begin with lq-- */
+#define DISTELHUT_ERR_NOT_WELL_FORMED 1009u    /* the scheme's rules of form do not admit the label */
+#define DISTELHUT_ERR_UNPAIRED_SURROGATE 1010u /* a UTF-16 surrogate of the text has no partner */
+#define DISTELHUT_ERR_UNKNOWN_SCHEME 1011u     /* the scheme number is none of 0, 1 and 2 */
+#define DISTELHUT_ERR_ODD_BYTE_COUNT 1012u     /* the text has an odd number of bytes */
+
+/*
+ * A worked comparison. U+00FC is written under LACE, and each kind of answer is told from the others (use, use_as_it_is and
+ * report are the caller's own functions):
+ *
+ *     const uint8_t text[2] = {0x00, 0xFC};
+ *     uint8_t label[DISTELHUT_SIZE_LABEL];
+ *     uint32_t answer = distelhut_write(DISTELHUT_SCHEME_LACE, text, sizeof text, label, sizeof label);
+ *     if (answer < DISTELHUT_ERR_BASE) {
+ *         use(label, answer);                     // 9 bytes: lq--74apy
+ *     } else if (answer == DISTELHUT_ERR_ALL_LDH) {
+ *         use_as_it_is(text, sizeof text);        // letters, digits and hyphens only: LACE has no label for it
+ *     } else {
+ *         report(answer - DISTELHUT_ERR_BASE);    // the refusal's number, as the listing prints it
+ *     }
+ *
  * A text is UTF-16 in bytes, the high byte of each unit first: U+00FC is 00 FC. There is no mark of byte order and no
  * final zero. A label is bytes of ASCII without a final zero; written labels use small letters, and reading ignores case.
  *
  * Both functions answer the number of bytes that they wrote to the beginning of the last buffer, which is 1 or more; its
  * bytes from that number on hold what they held. If the answer is 1000 or more, nothing was written at all. The first
- * buffer is never written to. Nothing is kept between calls.
+ * buffer is never written to.
+ *
+ * The functions keep no state, and may be called from any thread at any time. They take no memory from a heap. The archive
+ * has 7 KB of code and constants and needs one symbol, memset. A call needs 1,128 bytes of stack to write and 664 to read, and
+ * what memset needs; this is measured and not proved.
  *
  * The caller owes the following, and nothing is promised otherwise:
  *   - both pointers are valid for as many bytes as their lengths say: the first to read, the second to read and write;

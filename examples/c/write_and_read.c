@@ -22,8 +22,8 @@ static void print_label(const uint8_t *label, size_t length)
 /* Prints what was answered up to the bytes written, and whether there are any. */
 static int print_answer(uint32_t answer)
 {
-    if (answer >= DISTELHUT_REFUSED) {
-        printf(": refused %" PRIu32 "\n", answer - DISTELHUT_REFUSED);
+    if (answer >= DISTELHUT_ERR_BASE) {
+        printf(": refused %" PRIu32 "\n", answer - DISTELHUT_ERR_BASE);
         return 0;
     }
     printf(": %" PRIu32 " bytes, ", answer);
@@ -33,7 +33,7 @@ static int print_answer(uint32_t answer)
 /* Writes the label of a text and prints the line for it. */
 static void write_label(uint32_t scheme, const uint8_t *text, size_t length)
 {
-    uint8_t label[DISTELHUT_LABEL_CAPACITY] = {0};
+    uint8_t label[DISTELHUT_SIZE_LABEL] = {0};
     uint32_t answer = distelhut_write(scheme, text, length, label, sizeof label);
     printf("write, scheme %" PRIu32 ", ", scheme);
     print_text(text, length);
@@ -46,7 +46,7 @@ static void write_label(uint32_t scheme, const uint8_t *text, size_t length)
 /* Reads the text of a label and prints the line for it. */
 static void read_label(uint32_t scheme, const char *characters)
 {
-    uint8_t text[DISTELHUT_TEXT_CAPACITY] = {0};
+    uint8_t text[DISTELHUT_SIZE_TEXT] = {0};
     const uint8_t *label = (const uint8_t *)characters;
     size_t length = strlen(characters);
     uint32_t answer = distelhut_read(scheme, label, length, text, sizeof text);

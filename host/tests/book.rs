@@ -1,4 +1,4 @@
-//! The book of names. Review, item 23, for reading and for one card.
+//! The book of names: reading it, and reading one card.
 
 use distelhut_host::book::{card, read, Card};
 use distelhut_host::papers::{book_of, sample_book};

@@ -37,7 +37,7 @@ fn empty_rows_need_no_room() {
     assert_eq!(points(&[], 0, 0), Ok(vec![]));
 }
 
-// Review, item 16.
+// Also where twice the count would wrap.
 #[test]
 fn a_count_above_the_row_is_refused_first() {
     assert_eq!(units(&[], 1 << 63, 8), Err((1, 0)));
@@ -49,9 +49,9 @@ fn a_count_above_the_row_is_refused_first() {
     assert_eq!(points(&[0xD800], 2, 8), Err((1, 0)));
 }
 
-// Review, item 20.
+// Pairs, halves of pairs, and a count below the row.
 #[test]
-fn reviewed_rows() {
+fn rows_with_surrogates() {
     assert_eq!(points(&[0xD83E, 0xDDF6], 2, 1), Err((1, 0)));
     assert_eq!(points(&[0xD83E, 0xDDF6], 2, 2), Ok(vec![0x1F9F6]));
     assert_eq!(points(&[0x61, 0xD800], 1, 1), Ok(vec![0x61]));

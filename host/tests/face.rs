@@ -1,4 +1,4 @@
-//! The firmware's face. Review, item 19.
+//! The firmware's face: its order of refusals, its limits and what it answers.
 
 use distelhut_host::face::{read, write};
 use distelhut_host::gen::{self, Source};

@@ -17,29 +17,31 @@ fn constants() -> Vec<(&'static str, u32)> {
     HEADER.lines().filter_map(constant).collect()
 }
 
+/// The answer with which a cause is refused.
+fn answer(cause: Cause) -> u32 {
+    REFUSED + cause as u32
+}
+
 #[test]
 fn constants_are_the_papers() {
     let expected = [
         ("SCHEME_DEFAULT", 0),
         ("SCHEME_ALTDUDE", Scheme::AltDude.number()),
         ("SCHEME_LACE", Scheme::Lace.number()),
-        ("LABEL_CAPACITY", LABEL_MAX as u32),
-        ("TEXT_CAPACITY", TEXT_MAX as u32),
-        ("REFUSED", REFUSED),
-        ("CAPACITY", Cause::Room as u32),
-        ("EMPTY", Cause::Empty as u32),
-        ("TOO_LONG", Cause::TooLong as u32),
-        ("NOT_A_POINT", Cause::NoPoint as u32),
-        ("EDGE_HYPHEN", Cause::EdgeHyphen as u32),
-        ("ALL_LDH", Cause::AllLdh as u32),
-        ("OUTSIDE_ALPHABET", Cause::ForeignByte as u32),
-        ("NO_PREFIX", Cause::NoMark as u32),
-        ("NOT_WELL_FORMED", Cause::BadForm as u32),
-        ("UNPAIRED_SURROGATE", Cause::Unpaired as u32),
-        ("UNKNOWN_SCHEME", Cause::UnknownScheme as u32),
-        ("ODD_BYTE_COUNT", Cause::OddBytes as u32),
-        ("TRUNCATED", Cause::BookCut as u32),
-        ("MALFORMED", Cause::BookForm as u32),
+        ("SIZE_LABEL", LABEL_MAX as u32),
+        ("SIZE_TEXT", TEXT_MAX as u32),
+        ("ERR_BASE", REFUSED),
+        ("ERR_CAPACITY", answer(Cause::Room)),
+        ("ERR_EMPTY", answer(Cause::Empty)),
+        ("ERR_TOO_LONG", answer(Cause::TooLong)),
+        ("ERR_EDGE_HYPHEN", answer(Cause::EdgeHyphen)),
+        ("ERR_ALL_LDH", answer(Cause::AllLdh)),
+        ("ERR_OUTSIDE_ALPHABET", answer(Cause::ForeignByte)),
+        ("ERR_NO_PREFIX", answer(Cause::NoMark)),
+        ("ERR_NOT_WELL_FORMED", answer(Cause::BadForm)),
+        ("ERR_UNPAIRED_SURROGATE", answer(Cause::Unpaired)),
+        ("ERR_UNKNOWN_SCHEME", answer(Cause::UnknownScheme)),
+        ("ERR_ODD_BYTE_COUNT", answer(Cause::OddBytes)),
     ];
     assert_eq!(constants(), expected);
     assert_eq!(Scheme::of_number(0), Some(DEFAULT));

@@ -97,7 +97,7 @@ fn slips() {
     assert_eq!(read(Scheme::AltDude, b"b-b"), Ok(vec![0x61, 0x2D, 0x60]));
 }
 
-// Review, item 20.
+// 4 at the last of 100 numbers comes before 3, and so do 5 and 6.
 #[test]
 fn whole_text_is_judged_before_its_length() {
     let mut late = vec![0x61; 99];
@@ -110,7 +110,7 @@ fn whole_text_is_judged_before_its_length() {
     assert_eq!(write(Scheme::Lace, &[0x61; 300]), Err((6, 0)));
 }
 
-// Review, item 21.
+// A sum that wraps would make a point of a group this long.
 #[test]
 fn no_group_wraps() {
     let labels = [
@@ -129,7 +129,7 @@ fn no_group_wraps() {
     }
 }
 
-// Review, item 21.
+// A byte OR 20 hex is no fold: 0D is not the hyphen, 13 is not the 3.
 #[test]
 fn only_a_to_z_fold() {
     let label = [0x6C, 0x71, 0x0D, 0x0D, 0x37, 0x34, 0x61, 0x70, 0x79];
@@ -139,7 +139,7 @@ fn only_a_to_z_fold() {
     assert_eq!(read(Scheme::AltDude, b"3N"), Ok(vec![0xFC]));
 }
 
-// Review, item 22; 60 characters after the mark make 64 bytes.
+// 60 characters after the mark make 64 bytes.
 #[test]
 fn lace_limits_of_the_label() {
     for (count, number) in [(57, 9), (58, 9), (59, 9), (60, 3)] {

@@ -97,12 +97,12 @@ pub(crate) fn put_label(text: &[u32], label: &mut [u8]) -> usize
 {
     let mut at = 0;
     let mut remembered = 96;
-    let mut i = 0;
-    while i < text.len() {
-        let point = text[i];
+    let mut done = 0;
+    while done < text.len() {
+        let point = text[done];
         at = put_item(remembered, point, label, at);
         remembered = remembered_after(remembered, point);
-        i += 1;
+        done += 1;
     }
     at
 }

@@ -23,19 +23,22 @@ pub fn encode(text: &[u32], label: &mut [u8]) -> BytesAnswer
     ensures { λ _. ⌜ now (label .exit) ≡ bufferAfter (encodeOutcome (length (now (label .entry))) (now (text .entry))) (labelOf (now (text .entry))) (now (label .entry)) ⌝ }
 {
     let check = labels::check_text(text, label.len());
+    let edge = symbols::text_has_edge_hyphen(text);
     match check {
         Check::Error { code, position } => {
             return basis::bytes_error(code, position);
         }
         Check::Passed => {}
     }
-    if symbols::text_has_edge_hyphen(text) {
+    let length = encoding::label_length(text);
+    if edge {
         return basis::bytes_error(ErrorCode::EdgeHyphen, 0);
     }
-    if 63 < encoding::label_length(text) {
+    if 63 < length {
         return basis::bytes_error(ErrorCode::TooLong, 0);
     }
-    BytesAnswer::Bytes(ByteCount(encoding::put_label(text, label)))
+    let count = encoding::put_label(text, label);
+    BytesAnswer::Bytes(ByteCount(count))
 }
 
 // Reads the text of a label.
@@ -51,13 +54,15 @@ pub fn decode(label: &[u8], text: &mut [u32]) -> PointsAnswer
         Check::Passed => {}
     }
     let bad = symbols::first_outside(label);
+    let edge_hyphen = symbols::label_has_edge_hyphen(label);
+    let readable = decoding::is_readable(label);
     if bad < label.len() {
         return utf16::points_error(ErrorCode::OutsideAlphabet, bad);
     }
-    if symbols::label_has_edge_hyphen(label) {
+    if edge_hyphen {
         return utf16::points_error(ErrorCode::EdgeHyphen, 0);
     }
-    if !decoding::is_readable(label) {
+    if !readable {
         return utf16::points_error(ErrorCode::NotWellFormed, 0);
     }
     PointsAnswer::Points(PointCount(decoding::put_text(label, text)))

@@ -39,11 +39,13 @@ pub(crate) fn first_outside(label: &[u8]) -> usize
     i
 }
 
-// Whether the first or the last point is a hyphen.
+// Whether the first or the last point is a hyphen; an empty text has none.
 pub(crate) fn text_has_edge_hyphen(text: &[u32]) -> bool
-    requires { ⌜ 0 < length (now text) ⌝ }
     ensures { λ r. ⌜ r ≡ hasEdgeHyphen (now (text .entry)) ⌝ }
 {
+    if text.len() == 0 {
+        return false;
+    }
     if text[0] == 45 {
         return true;
     }

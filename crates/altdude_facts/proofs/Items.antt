@@ -1,18 +1,49 @@
--- The test of a row of symbols decides the rule of form: it passes exactly the rows of items.
+-- The test of a row of symbols decides the rule of form: a row of items passes it, and what passes it is a row of items.
 use Prim.Native.Nat.{ℕ, suc, _+_, _-_, _*_, _%_, _≤_, _<_}
 use mathlib.Core.Path.{_≡_, refl, ap, _∙_}
 use mathlib.Core.Bool.{true}
-use mathlib.Core.Logic.{_↔_}
 use mathlib.Core.List.{List, [], _∷_, _++_, append-assoc}
+use lib.Bits.{bitXor}
 use lib.ListN.{length, length-append, List·getD-append}
 use lib.Seq.{getD-at}
 use borrow.Author.Tests.{eqb-false, ne-eqb}
 use native.Mathlib.Omega.{arith}
 use Rattle.basis.specs.Rows.{at}
 use Rattle.basis.proofs.Tests.{by-lt}
+use Rattle.utf16.specs.Points.{isPoint}
 use Rattle.altdude.specs.Decoding.{isReadable}
 use Rattle.altdude_facts.specs.WellFormed.{Item, hyphen, group, symbolsIn, Group, Groups, digitsAfter, groupValue, RunningXor, RowOfItems}
 use Rattle.altdude_facts.proofs.RoundTrip.{Readable, at-end, by-last, by-hyphen, by-leading, readable-is, readable-passes}
+
+-- the leading symbols of a group
+abbrev Leading : List ℕ → Type 0
+Leading leading = (i : ℕ) → i < length leading → (16 ≤ at leading i) × (at leading i ≤ 31)
+
+-- they can be read, and so can a row of items
+read-leading : {m : ℕ} (v : ℕ) (leading : List ℕ) {last : ℕ} {l : List ℕ} → Leading leading → (v ≡ 0 → at leading 0 ≡ 16 → ⊥)
+    → Readable m (digitsAfter v leading) (last ∷ l) → Readable m v (leading ++ (last ∷ l))
+unfolding digitsAfter
+read-leading v [] h n r = r
+read-leading v (s ∷ leading) h n r =
+    let k = h 0 (omega arith) in
+    let q : v * 16 + s % 16 ≡ v * 16 + (s - 16) = omega arith in
+    let p : v * 16 + (s - 16) ≡ 0 → ⊥ = λ e. n (omega arith) (omega arith) in
+    by-leading (k .0) (omega arith) p (read-leading (v * 16 + (s - 16)) leading (λ i g. h (suc i) (omega arith)) (λ e f. p e) (rw q at r))
+
+read-items : (m : ℕ) (items : List Item) → Groups items → RunningXor m items → Readable m 0 (symbolsIn items)
+unfolding symbolsIn Groups RunningXor groupValue
+read-items m [] g x = at-end
+read-items m (hyphen ∷ items) g x = by-hyphen (read-items m items g x)
+read-items m (group leading last ∷ items) g x =
+    let point : isPoint (bitXor m (groupValue leading last)) ≡ true = x .0 in
+    let other : bitXor m (groupValue leading last) ≡ 45 → ⊥ = x .1 in
+    read-leading 0 leading (g .0 .leadingHigh) (λ e. g .0 .noLeadingS)
+    (by-last (omega (arith, g .0 .lastLow)) point (ne-eqb _ _ other) (read-items _ items (g .1) (x .2)))
+
+pub row-readable : (symbols : List ℕ) → RowOfItems symbols → isReadable 96 0 symbols ≡ true
+row-readable symbols row =
+    let joined : symbols ≡ symbolsIn (row .items) = row .joined in
+    rw joined (readable-passes (read-items 96 (row .items) (row .groups) (row .running)))
 
 -- a row of items, with the running XOR from any number
 record RowFrom (m : ℕ) (symbols : List ℕ) : Type 0 where
@@ -30,10 +61,6 @@ digits-le : (x : ℕ) (values : List ℕ) → x ≤ digitsAfter x values
 unfolding digitsAfter
 digits-le x [] = omega arith
 digits-le x (value ∷ values) = omega (arith, digits-le (x * 16 + value % 16) values)
-
--- the leading symbols of a group
-abbrev Leading : List ℕ → Type 0
-Leading leading = (i : ℕ) → i < length leading → (16 ≤ at leading i) × (at leading i ≤ 31)
 
 -- what is read of the open group: its leading symbols, with the pending value v
 record Opened (v : ℕ) (leading : List ℕ) : Type 0 where
@@ -99,33 +126,7 @@ row-after (by-last {v = v} {s = s} low p n r) leading o =
 row-after (by-leading {v = v} {s = s} high less n r) leading o =
     rw append-assoc at (row-after r (leading ++ (s ∷ [])) (opened-more v s leading o high less n))
 
--- the leading symbols of a group can be read, and so can a row of items
-read-leading : {m : ℕ} (v : ℕ) (leading : List ℕ) {last : ℕ} {l : List ℕ} → Leading leading → (v ≡ 0 → at leading 0 ≡ 16 → ⊥)
-    → Readable m (digitsAfter v leading) (last ∷ l) → Readable m v (leading ++ (last ∷ l))
-unfolding digitsAfter
-read-leading v [] h n r = r
-read-leading v (s ∷ leading) h n r =
-    let k = h 0 (omega arith) in
-    let q : v * 16 + s % 16 ≡ v * 16 + (s - 16) = omega arith in
-    let p : v * 16 + (s - 16) ≡ 0 → ⊥ = λ e. n (omega arith) (omega arith) in
-    by-leading (k .0) (omega arith) p (read-leading (v * 16 + (s - 16)) leading (λ i g. h (suc i) (omega arith)) (λ e f. p e) (rw q at r))
-
-read-items : (m : ℕ) (items : List Item) → Groups items → RunningXor m items → Readable m 0 (symbolsIn items)
-unfolding symbolsIn Groups RunningXor groupValue
-read-items m [] g x = at-end
-read-items m (hyphen ∷ items) g x = by-hyphen (read-items m items g x)
-read-items m (group leading last ∷ items) g x =
-    read-leading 0 leading (g .0 .leadingHigh) (λ e. g .0 .noLeadingS)
-    (by-last (omega (arith, g .0 .lastLow)) (x .0) (ne-eqb _ _ (x .1)) (read-items _ items (g .1) (x .2)))
-
--- the test decides the rule
-pub row-decided : (symbols : List ℕ) → (isReadable 96 0 symbols ≡ true) ↔ RowOfItems symbols
-row-decided symbols = (there, back)
-  where
-    there : isReadable 96 0 symbols ≡ true → RowOfItems symbols
-    there e =
-        let row = row-after (readable-is 96 0 symbols e) [] opened-none in
-        record { items = row .items; joined = row .joined; groups = row .groups; running = row .running }
-
-    back : RowOfItems symbols → isReadable 96 0 symbols ≡ true
-    back row = rw (row .joined) (readable-passes (read-items 96 (row .items) (row .groups) (row .running)))
+pub readable-row : (symbols : List ℕ) → isReadable 96 0 symbols ≡ true → RowOfItems symbols
+readable-row symbols e =
+    let row = row-after (readable-is 96 0 symbols e) [] opened-none in
+    record { items = row .items; joined = row .joined; groups = row .groups; running = row .running }

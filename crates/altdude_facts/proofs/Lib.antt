@@ -3,5 +3,6 @@ pub mod Bytes
 pub mod RoundTrip
 pub mod Items
 pub mod Edges
+pub mod Label
 pub mod Settled
 pub mod SchemeFacts

@@ -11,7 +11,7 @@ use Rattle.basis.specs.Rows.{at}
 use Rattle.basis.specs.Case.{small}
 use Rattle.basis.specs.Causes.{whole, placed, Absent, NoCause}
 use Rattle.basis.specs.Outcome.{done}
-use Rattle.basis.proofs.Tests.{by-lt, true-not-false, at-each, none-iff}
+use Rattle.basis.proofs.Tests.{by-lt, true-not-false, each-at, none-iff}
 use Rattle.basis.proofs.Lists.{at-map}
 use Rattle.basis.proofs.Causes.{absent-whole, absent-first}
 use Rattle.basis.proofs.Facts.{Facts}
@@ -29,9 +29,9 @@ use Rattle.altdude_facts.specs.Causes.{EdgeHyphen, OutsideAt, NotWellFor
 use Rattle.altdude.proofs.Digits.{digits-none}
 use Rattle.altdude_facts.proofs.Bytes.{symbol-character, symbols-small, bytes-symbols, symbols-bytes}
 use Rattle.altdude_facts.proofs.RoundTrip.{Readable, readable-is, readable-symbols, written-readable, written-text, read-symbols, read-text}
-use Rattle.altdude_facts.proofs.Items.{row-decided}
 use Rattle.altdude_facts.proofs.Edges.{edges-symbols, edges-written, edges-iff}
-use Rattle.altdude_facts.proofs.Settled.{formed-if, unreadable-iff, encode-settled, decode-settled}
+use Rattle.altdude_facts.proofs.Label.{formed-passes, passes-formed}
+use Rattle.altdude_facts.proofs.Settled.{unreadable-iff, encode-settled, decode-settled}
 
 -- the empty text and the empty label
 label-none : (t : List ℕ) → length t ≡ 0 → length (labelOf t) ≡ 0
@@ -75,14 +75,16 @@ module _ (t l : List ℕ) (same : symbolsFrom 96 t ≡ map symbolOf l) where
 
   -- and conversely
   spelled-formed : isText t ≡ true → NoCause (textCauses t) → WellFormed l
+  unfolding firstOutside
   spelled-formed text w =
       let readable : isReadable 96 0 (map symbolOf l) ≡ true = ap (isReadable 96 0) (sym same) ∙ written-readable 96 t text in
-      formed-if l
-      (λ e. w .0 0 (refl, ap length (sym same-text) ∙ text-none l e))
-      (by-lt 63 (length l) (λ h. absurd (w .1 .1 .1 .0 0 (refl, rw same-length h))) (λ h. h))
-      (characters (readable-is 96 0 (map symbolOf l) readable))
-      (sym same-edges ∙ absent-whole (hasEdgeHyphen t) (edges-iff t) (w .1 .1 .0))
-      readable
+      passes-formed l (record {
+        some = λ e. w .0 0 (refl, ap length (sym same-text) ∙ text-none l e);
+        short = by-lt 63 (length l) (λ h. absurd (w .1 .1 .1 .0 0 (refl, rw same-length h))) (λ h. h);
+        inside = none-iff _ _ .1 (each-at _ _ (characters (readable-is 96 0 (map symbolOf l) readable)));
+        edges = sym same-edges ∙ absent-whole (hasEdgeHyphen t) (edges-iff t) (w .1 .1 .0);
+        readable = readable;
+      })
     where
       characters : Readable 96 0 (map symbolOf l) → (i : ℕ) → i < length l → isCharacter (at l i) ≡ true
       characters r i h = symbol-character (at l i) (rw (at-map symbolOf l i h) at (readable-symbols r i (rw (length-map l symbolOf) h)))
@@ -102,7 +104,7 @@ module _ (t : List ℕ) (w : NoCause (textCauses t)) where
 -- a well-formed label has the symbols of its text
 module _ (l : List ℕ) (w : WellFormed l) where
   formed-readable : Readable 96 0 (map symbolOf l)
-  formed-readable = readable-is 96 0 (map symbolOf l) (row-decided (map symbolOf l) .1 (w .row))
+  formed-readable = readable-is 96 0 (map symbolOf l) (formed-passes l w .readable)
 
   text-symbols : symbolsFrom 96 (textOf l) ≡ map symbolOf l
   unfolding textOf
@@ -142,8 +144,8 @@ none-formed l n =
     let short : length l ≤ 63 = by-lt 63 (length l) (λ h. absurd (n .1 .0 0 (refl, h))) (λ h. h) in
     let inside : firstOutside l ≡ length l = absent-first (length l) (λ k. not (isCharacter (at l k))) (n .1 .1 .0) in
     let edges = absent-whole (hasEdgeHyphen l) (edges-iff l) (n .1 .1 .1 .0) in
-    formed-if l some short (at-each _ _ (none-iff _ _ .0 inside)) edges
-    (not-false _ (absent-whole _ (unreadable-iff l some short inside edges) (n .1 .1 .1 .1 .0)))
+    let readable = not-false _ (absent-whole _ (unreadable-iff l some short inside edges) (n .1 .1 .1 .1 .0)) in
+    passes-formed l (record { some = some; short = short; inside = inside; edges = edges; readable = readable })
 
 text-small : (l : List ℕ) → textOf (map small l) ≡ textOf l
 unfolding textOf

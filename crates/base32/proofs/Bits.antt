@@ -13,7 +13,7 @@ use Rattle.basis.proofs.Tests.{cases, by-lt, true-not-false, at-each, each-at}
 use Rattle.base32.specs.Bits.{bitOf, fromBits, rowBit, group, regroup}
 
 -- bits that agree make the same number
-fromBits-same : (w : ℕ) (f g : ℕ → ℕ) → ((j : ℕ) → j < w → f j ≡ g j) → fromBits w f ≡ fromBits w g
+pub fromBits-same : (w : ℕ) (f g : ℕ → ℕ) → ((j : ℕ) → j < w → f j ≡ g j) → fromBits w f ≡ fromBits w g
 unfolding fromBits
 fromBits-same zero f g e = refl
 fromBits-same (suc w) f g e = omega (arith, fromBits-same w f g (λ j h. e j (omega arith)), e w (omega arith))

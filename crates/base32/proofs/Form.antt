@@ -1,42 +1,41 @@
 -- The rules of Base32's form as the code tests them.
-use Prim.Native.Nat.{ℕ, _%_, _≤_, _<_}
-use mathlib.Core.Path.{_≡_}
-use mathlib.Core.Bool.{true, false}
-use mathlib.Core.Logic.{_⊎_, inl, inr}
+use Prim.Native.Nat.{ℕ, zero, suc, _%_, _<_}
+use mathlib.Core.Path.{_≡_, refl}
+use mathlib.Core.Bool.{true, false, not, _||_}
 use mathlib.Core.List.{List}
 use lib.Dec.{eqb}
 use lib.ListN.{length}
-use borrow.Author.Tests.{ne-eqb}
 use native.Mathlib.Omega.{arith}
 use Rattle.basis.specs.Tests.{both}
 use Rattle.basis.specs.Rows.{at}
-use Rattle.basis.proofs.Tests.{by-lt}
 use Rattle.base32.specs.Bits.{regroup}
 use Rattle.base32.specs.Form.{octetCount, lengthLawful, isLawful}
 use Rattle.base32.proofs.Regroup.{spare-octet}
 
 -- the length by its remainder on division by 8
 module _ (n : ℕ) where
-  abbrev Listed : Type 0
-  Listed = (n % 8 ≡ 0) ⊎ ((n % 8 ≡ 2) ⊎ (n % 8 ≡ 7))
-
-  pub listed-lawful : Listed → true ≡ lengthLawful n
+  pub one-unlawful : n % 8 ≡ 1 → false ≡ lengthLawful n
   unfolding lengthLawful
-  listed-lawful (inl e) = rw e
-  listed-lawful (inr (inl e)) = rw e
-  listed-lawful (inr (inr e)) = rw e
+  one-unlawful e = rw e
 
-  pub middle-lawful : 4 ≤ n % 8 → n % 8 < 6 → true ≡ lengthLawful n
+  pub three-unlawful : n % 8 ≡ 3 → false ≡ lengthLawful n
   unfolding lengthLawful
-  middle-lawful h g =
-      by-lt (n % 8) 5
-      (λ l. let e : n % 8 ≡ 4 = omega arith in rw e)
-      (λ l. let e : n % 8 ≡ 5 = omega arith in rw e)
+  three-unlawful e = rw e
 
-  pub other-unlawful : (Listed → ⊥) → (n % 8 ≡ 4 → ⊥) → (n % 8 ≡ 5 → ⊥) → false ≡ lengthLawful n
+  pub six-decides : (n % 8 ≡ 1 → ⊥) → (n % 8 ≡ 3 → ⊥) → not (eqb (n % 8) 6) ≡ lengthLawful n
   unfolding lengthLawful
-  other-unlawful l a b =
-      simp (ne-eqb (n % 8) 0 (λ e. l (inl e)), ne-eqb (n % 8) 2 (λ e. l (inr (inl e))), ne-eqb (n % 8) 4 a, ne-eqb (n % 8) 5 b, ne-eqb (n % 8) 7 (λ e. l (inr (inr e))))
+  six-decides a b = by-remainder (n % 8) (omega arith) a b
+    where
+      by-remainder : (r : ℕ) → r < 8 → (r ≡ 1 → ⊥) → (r ≡ 3 → ⊥) → not (eqb r 6) ≡ (eqb r 0 || eqb r 2 || eqb r 4 || eqb r 5 || eqb r 7)
+      by-remainder zero h a b = refl
+      by-remainder (suc zero) h a b = absurd (a refl)
+      by-remainder (suc (suc zero)) h a b = refl
+      by-remainder (suc (suc (suc zero))) h a b = absurd (b refl)
+      by-remainder (suc (suc (suc (suc zero)))) h a b = refl
+      by-remainder (suc (suc (suc (suc (suc zero))))) h a b = refl
+      by-remainder (suc (suc (suc (suc (suc (suc zero)))))) h a b = refl
+      by-remainder (suc (suc (suc (suc (suc (suc (suc zero))))))) h a b = refl
+      by-remainder (suc (suc (suc (suc (suc (suc (suc (suc r)))))))) h a b = absurd (omega arith)
 
 -- the form by the length and the octet after the last whole one
 module _ (qs : List ℕ) (n : ℕ) (e : length qs ≡ n) where

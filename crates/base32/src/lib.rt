@@ -35,20 +35,29 @@ pub fn decode(characters: &[u8], octets: &mut [u8]) -> BytesAnswer
     ensures { λ r. ⌜ now (octets .exit) ≡ bufferAfter (decodeOutcome (now (characters .entry)) (length (now (octets .entry)))) (toOctets (valuesOf lace (now (characters .entry)))) (now (octets .entry)) ⌝ }
 {
     let n = octets::octet_count(characters.len());
+    let bad = alphabet::first_outside_lace(characters);
+    let lawful = octets::length_lawful(characters.len());
     if octets.len() < n {
         return BytesAnswer::Error {
             code: ErrorCode::Capacity,
             position: 0,
         };
     }
-    let bad = alphabet::first_outside_lace(characters);
     if bad < characters.len() {
         return BytesAnswer::Error {
             code: ErrorCode::OutsideAlphabet,
             position: bad,
         };
     }
-    if !octets::is_lawful(characters, n) {
+    if !lawful {
+        return BytesAnswer::Error {
+            code: ErrorCode::NotWellFormed,
+            position: 0,
+        };
+    }
+    // The spare bits are the start of the octet after the last whole one.
+    let spare = octets::octet(characters, n);
+    if spare != 0 {
         return BytesAnswer::Error {
             code: ErrorCode::NotWellFormed,
             position: 0,

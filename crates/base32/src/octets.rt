@@ -6,7 +6,7 @@ ghost use lib.ListN.{length, drop};
 ghost use Rattle.basis.specs.Rows.{at};
 ghost use Rattle.base32.specs.Alphabet.{lace, valuesOf};
 ghost use Rattle.base32.specs.Bits.{regroup};
-ghost use Rattle.base32.specs.Form.{octetCount, lengthLawful, isLawful};
+ghost use Rattle.base32.specs.Form.{octetCount, lengthLawful};
 ghost use Rattle.base32.specs.Base32.{toOctets};
 ghost use Rattle.base32.specs.Answer.{firstOutside};
 
@@ -17,15 +17,18 @@ pub(crate) fn octet_count(quintets: usize) -> usize
     quintets / 8 * 5 + quintets % 8 * 5 / 8
 }
 
-// Whether the length leaves 0, 2, 4, 5 or 7 on division by 8.
-fn length_lawful(n: usize) -> bool
+// Whether the length leaves 0, 2, 4, 5 or 7 on division by 8, and so not 1, 3 or 6.
+pub(crate) fn length_lawful(n: usize) -> bool
     ensures { λ r. ⌜ r ≡ lengthLawful n ⌝ }
 {
     let rest = n % 8;
-    match rest {
-        0 | 2 | 4 | 5 | 7 => true,
-        _ => false,
+    if rest == 1 {
+        return false;
     }
+    if rest == 3 {
+        return false;
+    }
+    rest != 6
 }
 
 // The value of the character at an index, 0 past the end.
@@ -40,8 +43,8 @@ fn value_at(characters: &[u8], i: usize) -> usize
     }
 }
 
-// Octet i of the characters' values: eight bits out of three quintets.
-fn octet(characters: &[u8], i: usize) -> u8
+// Octet i of the characters' values: eight bits out of three quintets, zeros past the end.
+pub(crate) fn octet(characters: &[u8], i: usize) -> u8
     requires { ⌜ i < 2 ^ 63 ⌝ }
     requires { ⌜ firstOutside lace (now characters) ≡ length (now characters) ⌝ }
     ensures { λ r. ⌜ r ≡ regroup 5 8 (at (valuesOf lace (now (characters .entry)))) i ⌝ }
@@ -51,18 +54,6 @@ fn octet(characters: &[u8], i: usize) -> u8
     let y = value_at(characters, first + 1);
     let z = value_at(characters, first + 2);
     (((x * 1024 + y * 32 + z) >> (7 - i % 5 * 8 % 5)) % 256) as u8
-}
-
-// Whether the characters, which hold n whole octets, are lawful Base32: the spare bits make up the start of octet n.
-pub(crate) fn is_lawful(characters: &[u8], n: usize) -> bool
-    requires { ⌜ n ≡ octetCount (length (now characters)) ⌝ }
-    requires { ⌜ firstOutside lace (now characters) ≡ length (now characters) ⌝ }
-    ensures { λ r. ⌜ r ≡ isLawful (valuesOf lace (now (characters .entry))) ⌝ }
-{
-    if !length_lawful(characters.len()) {
-        return false;
-    }
-    octet(characters, n) == 0
 }
 
 // Writes the n octets of the characters.

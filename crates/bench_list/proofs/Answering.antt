@@ -13,8 +13,12 @@ use Rattle.lines.specs.declared.LineStep.the-variants.{Ended, More}
 use Rattle.lines.proofs.Stepping.{step-ended, step-more, answers-more}
 use Rattle.lines.proofs.Taken as taken
 use Rattle.report.proofs.Filling.{Filling, filling-none, filling-more}
+use Rattle.streams.specs.declared.ReadAnswer.{ReadAnswer}
 use Rattle.bench_list.specs.Listing.{benchLine, benchLines}
 use Rattle.bench_list.specs.Answered.{Answered}
+use Rattle.bench_list.specs.Turns.{TurnLeaves}
+use Rattle.bench_list.specs.declared.chunks.Turn.{Turn}
+use Rattle.bench_list.specs.declared.chunks.Turn.the-variants.{Lines}
 use Rattle.bench_list.proofs.Widths.{line-fits}
 
 pub lines-append : (lines more : List (List ℕ)) → benchLines (lines ++ more) ≡ benchLines lines ++ benchLines more
@@ -124,3 +128,9 @@ module _ {limit : ℕ} {before chunk old out : List ℕ} {written : ℕ} {line :
 
   pub held-fits : held ≤ length line
   held-fits = omega (arith, ap length (a .holds), length-take held line, a .held-count)
+
+-- the bytes that a turn got were answered
+pub turn-answered : (answer : ReadAnswer) (held : ℕ) (chunk line₀ line out₀ out : List ℕ) (turn : Turn) (got written kept : ℕ) → TurnLeaves answer held chunk line₀ line out₀ out turn
+    → turn ≡ Lines got written kept → Answered (length line₀) (take held line₀) (take got chunk) out₀ out written line kept
+unfolding TurnLeaves
+turn-answered answer held chunk line₀ line out₀ out turn got written kept l g = (rw g at l) .1

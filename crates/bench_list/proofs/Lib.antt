@@ -1,6 +1,7 @@
 -- Laws on what is printed.
-pub mod Widths
 pub mod TextLines
 pub mod Reading
+pub mod Widths
+pub mod LastLine
 pub mod Answering
 pub mod Printing

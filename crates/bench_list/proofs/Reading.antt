@@ -1,6 +1,6 @@
 -- What the C interface answers and leaves for a line, in the terms of what is printed.
 use Prim.Native.Nat.{ℕ, _+_, _*_, _-_, _≤_, _<_}
-use mathlib.Core.Path.{_≡_, refl, _∙_}
+use mathlib.Core.Path.{_≡_, refl, ap, _∙_}
 use mathlib.Core.Bool.{true}
 use mathlib.Core.List.{List, _++_}
 use lib.ListN.{length, take, drop}
@@ -20,13 +20,13 @@ use Rattle.scheme.proofs.SchemeFacts.{decoded-text}
 use Rattle.scheme.proofs.Capacity.{decoded-short}
 use Rattle.firmware.specs.Answer.{answerOf, ifKnown, madeBy, pointsOf, bytesOf, inBytes, readBy, readOutcome, readText}
 use Rattle.report.specs.Lines.{pointsLine, refusedLine}
-use Rattle.bench_list.specs.Listing.{lineFor, benchLine}
+use Rattle.bench_list.specs.Listing.{lineFor, schemeNumber, benchLine}
 use Rattle.bench_list.specs.TextBytes.{TextBytes}
 
--- the number 0 names LACE
-zero-names : numberNames 0 ≡ Known Lace
+-- the scheme that is asked for is LACE
+asks-lace : numberNames schemeNumber ≡ Known Lace
 unfolding numberNames ownNumberNames defaultNumber
-zero-names = refl
+asks-lace = refl
 
 -- the bytes of a text
 text-bytes : (text : List ℕ) → isText text ≡ true → length text ≤ 63 → TextBytes (bytesOf text)
@@ -44,16 +44,27 @@ unfolding pointsOf bytesOf
 text-back text t = rw units-back (points-back text t)
 
 module _ (label : List ℕ) where
-  read-is : readOutcome 0 252 label ≡ inBytes (bytesOf (textOf Lace label)) (decodeOutcome Lace 63 label)
+  read-is : readOutcome schemeNumber 252 label ≡ inBytes (bytesOf (textOf Lace label)) (decodeOutcome Lace 63 label)
   unfolding readOutcome ifKnown readBy refusedIf
-  read-is = rw zero-names
+  read-is = rw asks-lace
 
-  text-is : readText 0 label ≡ bytesOf (textOf Lace label)
+  text-is : readText schemeNumber label ≡ bytesOf (textOf Lace label)
   unfolding readText madeBy
-  text-is = rw zero-names
+  text-is = rw asks-lace
+
+  -- what is printed is what LACE reads the line as
+  pub lace-line : benchLine label ≡ lineFor (decodeOutcome Lace 63 label) (textOf Lace label)
+  unfolding benchLine lineFor inBytes
+  lace-line = rw (read-is, text-is) (by (decodeOutcome Lace 63 label) refl)
+    where
+      by : (outcome : Outcome) → decodeOutcome Lace 63 label ≡ outcome
+          → lineFor (inBytes (bytesOf (textOf Lace label)) outcome) (pointsOf (bytesOf (textOf Lace label))) ≡ lineFor outcome (textOf Lace label)
+      by (done n) e = ap pointsLine (text-back (textOf Lace label) (decoded-text Lace 63 n label e))
+      by (refused number position) e = refl
 
   -- the interface's answer, and the text's buffer that was old and is now
-  module _ (answer : ℕ) (old now : List ℕ) (a : answer ≡ answerOf (readOutcome 0 252 label)) (b : now ≡ bufferAfter (readOutcome 0 252 label) (readText 0 label) old) where
+  module _ (answer : ℕ) (old now : List ℕ) (a : answer ≡ answerOf (readOutcome schemeNumber 252 label))
+      (b : now ≡ bufferAfter (readOutcome schemeNumber 252 label) (readText schemeNumber label) old) where
     -- so many bytes in front of the buffer are those of the text, whose points are printed
     pub record WasRead : Type 0 where
       pub inside : answer ≤ length now
@@ -62,7 +73,7 @@ module _ (label : List ℕ) where
       pub line : pointsLine (pointsOf (take answer now)) ≡ benchLine label
 
     was-read : (n : ℕ) → decodeOutcome Lace 63 label ≡ done n → WasRead
-    unfolding answerOf inBytes bufferAfter benchLine lineFor
+    unfolding answerOf inBytes bufferAfter lineFor
     was-read n e =
         let t = decoded-text Lace 63 n label e in
         let text = textOf Lace label in
@@ -73,12 +84,12 @@ module _ (label : List ℕ) where
           inside = front-fits answer (bytesOf text) _ now count is;
           long = front-long answer (bytesOf text) _ now count is;
           bytes = rw front (text-bytes text t (decoded-short Lace 63 n label e));
-          line = rw (front, text-back text t, e);
+          line = rw (front, text-back text t, lace-line, e);
         }
 
     was-refused : (number position : ℕ) → decodeOutcome Lace 63 label ≡ refused number position → (answer ≡ 1000 + number) × (refusedLine number ≡ benchLine label)
-    unfolding answerOf inBytes benchLine lineFor
-    was-refused number position e = (a ∙ rw (read-is, e), rw e)
+    unfolding answerOf inBytes lineFor
+    was-refused number position e = (a ∙ rw (read-is, e), rw (lace-line, e))
 
     -- an answer below 1000 is of a text, any other of a refusal
     pub read-below : answer < 1000 → WasRead

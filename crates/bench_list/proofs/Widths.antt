@@ -19,6 +19,7 @@ use Rattle.report.proofs.LineLaws.{number-length, refused-length}
 use Rattle.report.proofs.Widths.{points-few}
 use Rattle.report.specs.Answer.{lineRoom}
 use Rattle.bench_list.specs.Listing.{lineFor, benchLine}
+use Rattle.bench_list.proofs.Reading.{lace-line}
 
 -- the numbers of the refusals have at most four digits
 refused-few : (number : ℕ) → number < 16 → length (refusedLine number) ≤ 13
@@ -49,8 +50,8 @@ small-number label =
 
 -- what is printed for a line has room
 pub line-fits : (label : List ℕ) → length (benchLine label) ≤ lineRoom
-unfolding benchLine lineFor
-line-fits label = by (decodeOutcome Lace 63 label) refl
+unfolding lineFor
+line-fits label = rw lace-line (by (decodeOutcome Lace 63 label) refl)
   where
     by : (outcome : Outcome) → decodeOutcome Lace 63 label ≡ outcome → length (lineFor outcome (textOf Lace label)) ≤ lineRoom
     by (done n) e = omega (arith, points-few (textOf Lace label) (decoded-low Lace 63 n label e), decoded-short Lace 63 n label e)

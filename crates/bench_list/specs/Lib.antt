@@ -2,3 +2,4 @@
 pub mod Listing
 pub mod TextBytes
 pub mod Answered
+pub mod Turns

@@ -1,5 +1,6 @@
 // The answer to one line, through the C interface.
 use basis::BytesAnswer;
+use streams::Ending;
 use utf16::PointsAnswer;
 use utf16::UnitCount;
 use utf16::UnitsAnswer;
@@ -12,10 +13,12 @@ ghost use Rattle.firmware.specs.Answer.{pointsOf};
 ghost use Rattle.report.specs.Lines.{pointsLine};
 ghost use Rattle.report.specs.Answer.{lineRoom, lineOutcome};
 ghost use Rattle.lines.specs.Step.{inFront};
-ghost use Rattle.bench_list.specs.Listing.{benchLine};
+ghost use Rattle.lines.specs.Run.{lastLine};
+ghost use Rattle.streams.specs.Reading.{believed};
+ghost use Rattle.bench_list.specs.Listing.{benchLine, benchLines};
 ghost use Rattle.bench_list.specs.TextBytes.{TextBytes};
 
-// The scheme's number at the interface: the house default, which is LACE.
+// The number of the scheme that the interface is asked for: the house default, which is LACE.
 const SCHEME: u32 = 0;
 
 // What the interface adds to the number of a refusal.
@@ -67,4 +70,18 @@ pub(crate) fn answer_line(label: &[u8], out: &mut [u8]) -> usize
         return basis::bytes_written(text_line(&text[..n], out));
     }
     basis::bytes_written(report::refused_line(answer - REFUSED, out))
+}
+
+// Writes what is printed once reading is over for the bytes held of a line, and answers how many bytes that are. They are a
+// line if there is one and the input ended; if a read failed, nothing is printed for them.
+pub(crate) fn answer_last(ending: Ending, held: &[u8], out: &mut [u8]) -> usize
+    requires { ⌜ lineRoom ≤ length (now out) ⌝ }
+    ensures { λ r. ⌜ r ≡ length (benchLines (lastLine (believed ending (now (held .entry))))) ⌝ }
+    ensures { λ _. ⌜ now (out .exit) ≡ inFront (benchLines (lastLine (believed ending (now (held .entry))))) (now (out .entry)) ⌝ }
+{
+    let last = streams::believed_bytes(ending, held);
+    if 0 < last.len() {
+        return answer_line(last, out);
+    }
+    0
 }

@@ -2,42 +2,24 @@
 mod answers;
 mod chunks;
 
+use chunks::Turn;
+use libc::STDIN_FILENO;
+use streams::Ending;
 ghost use mathlib.Core.Path.{_≡_};
 ghost use Prim.Native.Nat.{_*_, _≤_};
 ghost use lib.ListN.{length};
 ghost use Rattle.report.specs.Answer.{lineRoom};
 ghost use Rattle.bench_list.specs.Listing.{heldRoom};
 
-// Whether there may be more input, and how many bytes are held of the line that has not ended.
-struct Turn {
-    more: bool,
-    held: usize,
-}
-
-// Reads once from standard input and prints the answers of the lines that end; a failed read counts as the end of input.
-fn read_some(chunk: &mut [u8], line: &mut [u8], held: usize, out: &mut [u8]) -> Turn
-    requires { ⌜ held ≤ length (now line) ⌝ }
-    requires { ⌜ lineRoom * length (now chunk) ≤ length (now out) ⌝ }
-    ensures { λ r. ⌜ r .held ≤ length (now (line .entry)) ⌝ }
+// Prints the answer to the bytes held of a line once reading is over.
+fn print_last(ending: Ending, held: &[u8], out: &mut [u8])
+    requires { ⌜ lineRoom ≤ length (now out) ⌝ }
 {
-    let got = libc::read(0, chunk);
-    if got <= 0 {
-        return Turn {
-            more: false,
-            held: held,
-        };
-    }
-    let n = io::count(got, chunk);
-    let progress = chunks::answer_chunk(&chunk[..n], line, held, out);
-    let written = progress.written;
-    io::write_all(1, &out[..written]);
-    Turn {
-        more: true,
-        held: progress.held,
-    }
+    let n = answers::answer_last(ending, held, out);
+    streams::print(&out[..n]);
 }
 
-// Answers every line of standard input. A last line without a line feed counts if it has a byte.
+// Answers the lines of standard input, read by read, until reading is over or a write fails.
 fn run(chunk: &mut [u8], line: &mut [u8], out: &mut [u8])
     requires { ⌜ length (now line) ≡ heldRoom ⌝ }
     requires { ⌜ lineRoom * length (now chunk) ≤ length (now out) ⌝ }
@@ -45,16 +27,25 @@ fn run(chunk: &mut [u8], line: &mut [u8], out: &mut [u8])
 {
     let mut held = 0;
     let mut turns = u64::MAX;
-    let mut more = true;
-    while more && turns > 0 {
-        let turn = read_some(chunk, line, held, out);
-        more = turn.more;
-        held = turn.held;
+    while turns > 0 {
+        let answer = streams::read(STDIN_FILENO, chunk);
+        let turn = chunks::answer_read(answer, chunk, line, held, out);
+        match turn {
+            Turn::Ended(ending) => {
+                return print_last(ending, &line[..held], out);
+            }
+            Turn::Lines {
+                got: _,
+                written,
+                held: kept,
+            } => {
+                if streams::print(&out[..written]) < written {
+                    return;
+                }
+                held = kept;
+            }
+        }
         turns -= 1;
-    }
-    if 0 < held {
-        let n = answers::answer_line(&line[..held], out);
-        io::write_all(1, &out[..n]);
     }
 }
 

@@ -56,6 +56,7 @@ use Rattle.firmware.proofs.Counts.{write-few, bytes-few, read-few}
 use Rattle.report.specs.Lines.{listLine, pointsLine, refusedAtLine, refusedLine}
 use Rattle.report.specs.Answer.{lineOutcome}
 use Rattle.claims.specs.Demand1.{isOneOf, Listed, Answers, Tells, encodeCodes, decodeCodes, tableCodes, writeCodes, readCodes, Demand1}
+use Rattle.claims.proofs.Interface.{written-some, read-some}
 
 -- a chain of tests: each that holds has a listed number
 module _ {codes : List ℕ} where
@@ -351,10 +352,10 @@ firmware-read number label text =
     answers _ (known-good (numberNames number) _ _ refl (λ s. good-if _ _ _ (λ _. refl) (λ room. read-label s (length text) label (ltb-false (length text) 252 room))))
 
 -- what the one number tells
-tells : (most : ℕ) (outcome : Outcome) → most < 1000 → basis.countOf outcome ≤ most → Tells most outcome
+tells : (most : ℕ) (outcome : Outcome) → most < 1000 → ((n : ℕ) → outcome ≡ done n → 1 ≤ n) → basis.countOf outcome ≤ most → Tells most outcome
 unfolding answerOf basis.countOf
-tells most (done n) below few = record { counts = λ h. (refl, few); refuses = λ number e. absurd (omega arith) }
-tells most (refused k p) below few = record {
+tells most (done n) below some few = record { counts = λ h. (refl, omega (arith, some n refl), few); refuses = λ number e. absurd (omega arith) }
+tells most (refused k p) below some few = record {
   counts = λ h. absurd (omega arith);
   refuses = λ number e. let q : k ≡ number = omega arith in (p, ap (λ (x : ℕ). refused x p) q);
 }
@@ -385,9 +386,9 @@ demand1 = record {
   bytesToUnits = bytes-to-units;
   unitsToBytes = units-to-bytes;
   write = firmware-write;
-  writeTells = λ number capacity text. tells _ _ (omega arith) (omega (arith, write-few number capacity text));
+  writeTells = λ number capacity text. tells _ _ (omega arith) (written-some number capacity text) (omega (arith, write-few number capacity text));
   read = firmware-read;
-  readTells = λ number capacity label. tells _ _ (omega arith) (omega (arith, read-few number capacity label));
+  readTells = λ number capacity label. tells _ _ (omega arith) (read-some number capacity label) (omega (arith, read-few number capacity label));
   listLines = λ reader letter points. put-line (listLine reader letter points);
   pointsLines = λ points. put-line (pointsLine points);
   refusedAtLines = λ code position. put-line (refusedAtLine code position);

@@ -3,14 +3,14 @@ use Prim.Native.Nat.{ℕ, _*_, _%_, _≤_, _<_}
 use mathlib.Core.Path.{_≡_, refl, sym, ap, _∙_}
 use mathlib.Core.Bool.{true}
 use mathlib.Core.Logic.{_↔_}
-use mathlib.Core.List.{List}
+use mathlib.Core.List.{List, _∷_}
 use lib.ListN.{length}
 use lib.Seq.{take-append-seam}
 use borrow.Author.Tests.{le-ltb}
 use native.Mathlib.Omega.{arith}
 use Rattle.basis.specs.Rows.{AllBelow}
 use Rattle.basis.specs.Case.{SameButCase}
-use Rattle.basis.specs.Causes.{placed, Absent, NoCause}
+use Rattle.basis.specs.Causes.{whole, placed, Absent, NoCause}
 use Rattle.basis.specs.Outcome.{Outcome, done, refused, refusedIf, bufferAfter}
 use Rattle.basis.specs.Scheme.{Writable}
 use Rattle.basis.proofs.Tests.{by-lt, true-not-false, first-before}
@@ -22,19 +22,22 @@ use Rattle.utf16.specs.Causes.{UnpairedAt}
 use Rattle.utf16.proofs.RoundTrip as utf16-laws
 use Rattle.wire.specs.Bytes as wire
 use Rattle.wire.proofs.RoundTrip as wire-laws
+use Rattle.altdude.proofs.DecodeLaws as altdude-laws
+use Rattle.lace_facts.proofs.Label as lace-laws
 use Rattle.scheme.specs.Naming.{numberNames}
 use Rattle.scheme.specs.Coding.{decodeOutcome, labelOf, textOf}
 use Rattle.scheme.specs.Schemes.{schemeOf}
 use Rattle.scheme.proofs.Capacity.{decoded-short}
 use Rattle.scheme.proofs.SchemeFacts.{scheme-facts, same-decoding, same-label, same-text, writable-some, decoded-formed, decoded-writable, decoded-text}
 use Rattle.scheme.specs.declared.Scheme.{Scheme}
+use Rattle.scheme.specs.declared.Scheme.the-variants.{Altdude, Lace}
 use Rattle.scheme.specs.declared.Named.the-variants.{Known, Unknown}
-use Rattle.firmware.specs.Answer.{ifKnown, madeBy, pointsOf, bytesOf, writtenLabel, inBytes, readBy, readOutcome, readText}
-use Rattle.firmware.specs.Causes.{bytesCauses}
+use Rattle.firmware.specs.Answer.{ifKnown, madeBy, pointsOf, bytesOf, writeOutcome, writtenLabel, inBytes, readBy, readOutcome, readText}
+use Rattle.firmware.specs.Causes.{bytesCauses, writeCauses}
 use Rattle.firmware.proofs.Counts.{bytes-few}
 use Rattle.firmware.proofs.Settled.{named-by, write-settled, read-settled}
-use Rattle.claims.specs.Demands.{ReadsBytes, MayWrite, Demand2AtInterface}
-use Rattle.claims.proofs.SchemeDemands.{text-is, spells, label-is-formed}
+use Rattle.claims.specs.Demands.{WritesBytes, ReadsBytes, MayWrite, Demand2AtInterface}
+use Rattle.claims.proofs.SchemeDemands.{settled-leaves, text-is, spells, label-is-formed}
 
 -- a text, as bytes and back
 module _ (t : List ℕ) (text : isText t ≡ true) where
@@ -139,5 +142,63 @@ reads-back number buffer l bytes room below =
     unknown : numberNames number ≡ Unknown → ReadsBytes number buffer l bytes → ⊥
     unknown e r = done-not-refused (r .answers) (unknown-11 number (length buffer) l e)
 
+-- capacity aside, the causes against writing are those against the text
+module _ (number capacity : ℕ) (bytes : List ℕ) where
+  free-may : NoCause (writeCauses number capacity bytes) → MayWrite number bytes
+  free-may free =
+      named-by number
+      (λ many e. absurd (free .0 0 (refl, many)))
+      (λ few s e. (free .0, rw e (let q : NoCause (whole 1 (capacity < 63) ∷ bytesCauses s bytes) = rw e at (free .1) in q .1)))
+
+  may-free : 63 ≤ capacity → MayWrite number bytes → NoCause (writeCauses number capacity bytes)
+  may-free room may =
+      named-by number
+      (λ many e. absurd (may .0 0 (refl, many)))
+      (λ few s e. (may .0, rw e ((λ p h. omega (arith, h .1)), (let q : NoCause (bytesCauses s bytes) = rw e at (may .1) in q))))
+
+writes-label : (number : ℕ) (buffer bytes l : List ℕ) → 63 ≤ length buffer → WritesBytes number buffer bytes l ↔ (MayWrite number bytes × (l ≡ writtenLabel number bytes))
+writes-label number buffer bytes l room =
+    let s = settled-leaves (writtenLabel number bytes) buffer l (write-settled number (length buffer) bytes) in
+    (λ r. let q = s .0 r in (free-may number (length buffer) bytes (q .0), q .1), λ p. s .1 (may-free number (length buffer) bytes room (p .0), p .1))
+
+-- the label of a text that may be written has a byte or more, since the text has a point or more
+label-some : (s : Scheme) (t : List ℕ) → Writable (schemeOf s) t → 1 ≤ length (schemeOf s .labelOf t)
+label-some s t w = omega (arith, ap length (scheme-facts s .text-back t w), text-fits s (schemeOf s .labelOf t), writable-some s t w)
+  where
+    text-fits : (s : Scheme) (l : List ℕ) → length (schemeOf s .textOf l) ≤ length l
+    text-fits Altdude l = altdude-laws.text-fits l
+    text-fits Lace l = lace-laws.text-fits l
+
+-- so the counts of both functions are 1 or more
+pub written-some : (number capacity : ℕ) (bytes : List ℕ) (n : ℕ) → writeOutcome number capacity bytes ≡ done n → 1 ≤ n
+unfolding writtenLabel madeBy
+written-some number capacity bytes n e =
+    let q = write-settled number capacity bytes .succeeds n .0 e in
+    let may = free-may number capacity bytes (q .0) in
+    named-by number
+    (λ many u. absurd (may .0 0 (refl, many)))
+    (λ few s k.
+    let free : NoCause (bytesCauses s bytes) = rw k at (may .1) in
+    let is : n ≡ length (schemeOf s .labelOf (pointsOf bytes)) = q .1 ∙ rw (k, same-label s) in
+    omega (arith, is, label-some s (pointsOf bytes) (free .1 .1 .1 .1)))
+
+pub read-some : (number capacity : ℕ) (l : List ℕ) (n : ℕ) → readOutcome number capacity l ≡ done n → 1 ≤ n
+unfolding readText madeBy
+read-some number capacity l n e =
+    let q = read-settled number capacity l .succeeds n .0 e in
+    named-by number
+    (λ many u. absurd (q .0 .0 0 (refl, many)))
+    (λ few s k.
+    let free : NoCause (whole 1 (capacity < 252) ∷ schemeOf s .labelCauses l) = rw k at (q .0 .1) in
+    let d : decodeOutcome s 63 l ≡ done (length (schemeOf s .textOf l)) = rw (same-decoding s) (scheme-facts s .decoding 63 l .succeeds _ .1 (((λ p h. omega (arith, h .1)), free .1), refl)) in
+    let t = textOf s l in
+    let is : n ≡ length (bytesOf t) = q .1 ∙ rw k in
+    omega (arith, is, bytes-long t (decoded-text s 63 _ l d), utf16-laws.some-toUnits t, writable-some s t (decoded-writable s 63 _ l d)))
+
 pub at-interface : Demand2AtInterface
-at-interface = record { writing = write-settled; reading = read-settled; back = reads-back }
+at-interface = record {
+  encoding = write-settled;
+  decoding = read-settled;
+  writing = λ number buffer bytes l h. writes-label number buffer bytes l (omega (arith, h));
+  reading = λ number buffer l bytes h. reads-back number buffer l bytes (omega (arith, h));
+}

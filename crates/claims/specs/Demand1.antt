@@ -62,9 +62,9 @@ pub record Answers (codes : List ℕ) (outcome : Outcome) (values buffer : List 
   pub asLong : length (bufferAfter outcome values buffer) ≡ length buffer
   pub unchanged : drop (countOf outcome) (bufferAfter outcome values buffer) ≡ drop (countOf outcome) buffer
 
--- the one number of an outcome tells which it is: below 1000 a count, at most this one, and else 1000 plus the refusal's number
+-- the one number of an outcome tells which it is: below 1000 a count, 1 to this one, and else 1000 plus the refusal's number
 pub record Tells (most : ℕ) (outcome : Outcome) : Type 0 where
-  pub counts : answerOf outcome < 1000 → (outcome ≡ done (answerOf outcome)) × (answerOf outcome ≤ most)
+  pub counts : answerOf outcome < 1000 → (outcome ≡ done (answerOf outcome)) × (1 ≤ answerOf outcome) × (answerOf outcome ≤ most)
   pub refuses : (number : ℕ) → answerOf outcome ≡ 1000 + number → (position : ℕ) × (outcome ≡ refused number position)
 
 -- the numbers of each scheme, writing and reading

@@ -8,31 +8,40 @@ use lib.ListN.{length, take}
 use Rattle.basis.specs.Rows.{AllBelow}
 use Rattle.basis.specs.Case.{SameButCase}
 use Rattle.basis.specs.Causes.{whole, NoCause, Settles}
-use Rattle.basis.specs.Outcome.{done, bufferAfter}
+use Rattle.basis.specs.Outcome.{Outcome, done, bufferAfter}
 use Rattle.basis.specs.Scheme.{Scheme, Writable}
 use Rattle.altdude_facts.specs.Causes as altdude
-use Rattle.lace.specs.Octets.{isAllLdh}
 use Rattle.lace_facts.specs.Causes as lace
 use Rattle.scheme.specs.Naming.{numberNames}
 use Rattle.firmware.specs.Answer.{writeOutcome, writtenLabel, readOutcome, readText}
 use Rattle.firmware.specs.Causes.{UnknownNumber, causesBy, bytesCauses, writeCauses, readCauses}
+
+-- an entry with this outcome, which puts these values into the buffer, is done, and this row is before its count afterwards
+pub record Leaves (outcome : Outcome) (values buffer row : List ℕ) : Type 0 where
+  pub count : ℕ
+  pub answers : outcome ≡ done count
+  pub leaves : take count (bufferAfter outcome values buffer) ≡ row
 
 module _ (s : Scheme) where
   -- decoding the bytes l into the buffer answers
   abbrev pub Accepts : List ℕ → List ℕ → Type 0
   Accepts buffer l = (count : ℕ) × (s .decodeOutcome (length buffer) l ≡ done count)
 
+  -- encoding the text t into the buffer answers, and leaves the label l before its count
+  abbrev pub Writes : List ℕ → List ℕ → List ℕ → Type 0
+  Writes buffer t l = Leaves (s .encodeOutcome (length buffer) t) (s .labelOf t) buffer l
+
   -- decoding the bytes l into the buffer answers, and leaves the text t before its count
-  pub record Reads (buffer l t : List ℕ) : Type 0 where
-    pub count : ℕ
-    pub answers : s .decodeOutcome (length buffer) l ≡ done count
-    pub leaves : take count (bufferAfter (s .decodeOutcome (length buffer) l) (s .textOf l) buffer) ≡ t
+  abbrev pub Reads : List ℕ → List ℕ → List ℕ → Type 0
+  Reads buffer l t = Leaves (s .decodeOutcome (length buffer) l) (s .textOf l) buffer t
 
   -- demand 2: each refusal exactly as the first of its causes says, 1 for a capacity under 63 before all others, and the
-  -- label's length otherwise; decoding leaves a text exactly when it may be written and its label is these bytes but for case
+  -- label's or the text's length otherwise; encoding leaves a label exactly when the text may be written and this is its label;
+  -- decoding leaves a text exactly when it may be written and its label is these bytes but for case
   pub record Demand2Of : Type 0 where
     pub encoding : (capacity : ℕ) (t : List ℕ) → Settles (whole 1 (capacity < 63) ∷ s .textCauses t) (length (s .labelOf t)) (s .encodeOutcome capacity t)
     pub decoding : (capacity : ℕ) (l : List ℕ) → Settles (whole 1 (capacity < 63) ∷ s .labelCauses l) (length (s .textOf l)) (s .decodeOutcome capacity l)
+    pub writing : (buffer t l : List ℕ) → 63 ≤ length buffer → Writes buffer t l ↔ (Writable s t × (l ≡ s .labelOf t))
     pub reading : (buffer l t : List ℕ) → 63 ≤ length buffer → Reads buffer l t ↔ (Writable s t × SameButCase (s .labelOf t) l)
 
   -- demand 3, for every buffer of 63 elements or more
@@ -47,30 +56,33 @@ module _ (s : Scheme) where
     -- two accepted labels read alike exactly when they differ at most in the case of A to Z
     pub alike : (buffer other l k t u : List ℕ) → 63 ≤ length buffer → 63 ≤ length other → Reads buffer l t → Reads other k u → (t ≡ u) ↔ SameButCase l k
 
--- the C interface: reading the bytes l under a number into the buffer answers, and leaves the bytes of a text before its count
-pub record ReadsBytes (number : ℕ) (buffer l bytes : List ℕ) : Type 0 where
-  pub count : ℕ
-  pub answers : readOutcome number (length buffer) l ≡ done count
-  pub leaves : take count (bufferAfter (readOutcome number (length buffer) l) (readText number l) buffer) ≡ bytes
+-- the C interface: writing the bytes of a text under a number into the buffer answers, and leaves the label l before its count
+abbrev pub WritesBytes : ℕ → List ℕ → List ℕ → List ℕ → Type 0
+WritesBytes number buffer bytes l = Leaves (writeOutcome number (length buffer) bytes) (writtenLabel number bytes) buffer l
+
+-- reading the bytes l under a number into the buffer answers, and leaves the bytes of a text before its count
+abbrev pub ReadsBytes : ℕ → List ℕ → List ℕ → List ℕ → Type 0
+ReadsBytes number buffer l bytes = Leaves (readOutcome number (length buffer) l) (readText number l) buffer bytes
 
 -- a text of bytes may be written under a number: no cause, capacity aside, stands against it
 abbrev pub MayWrite : ℕ → List ℕ → Type 0
 MayWrite number bytes = NoCause (whole 11 (UnknownNumber number) ∷ causesBy (numberNames number) (λ s. bytesCauses s bytes))
 
--- demand 2 at the C interface
+-- demand 2 at the C interface, for the same sentences
 pub record Demand2AtInterface : Type 0 where
-  pub writing : (number capacity : ℕ) (bytes : List ℕ) → Settles (writeCauses number capacity bytes) (length (writtenLabel number bytes)) (writeOutcome number capacity bytes)
-  pub reading : (number capacity : ℕ) (l : List ℕ) → Settles (readCauses number capacity l) (length (readText number l)) (readOutcome number capacity l)
-  pub back : (number : ℕ) (buffer l bytes : List ℕ) → 252 ≤ length buffer → AllBelow 256 bytes
+  pub encoding : (number capacity : ℕ) (bytes : List ℕ) → Settles (writeCauses number capacity bytes) (length (writtenLabel number bytes)) (writeOutcome number capacity bytes)
+  pub decoding : (number capacity : ℕ) (l : List ℕ) → Settles (readCauses number capacity l) (length (readText number l)) (readOutcome number capacity l)
+  pub writing : (number : ℕ) (buffer bytes l : List ℕ) → 63 ≤ length buffer → WritesBytes number buffer bytes l ↔ (MayWrite number bytes × (l ≡ writtenLabel number bytes))
+  pub reading : (number : ℕ) (buffer l bytes : List ℕ) → 252 ≤ length buffer → AllBelow 256 bytes
       → ReadsBytes number buffer l bytes ↔ (MayWrite number bytes × SameButCase (writtenLabel number bytes) l)
 
 -- demand 2 of both schemes, and carried to the C interface
 pub record Demand2 : Type 0 where
   pub ofAltdude : Demand2Of altdude.scheme
-  pub ofLace : Demand2Of (lace.scheme isAllLdh)
+  pub ofLace : Demand2Of lace.scheme
   pub atInterface : Demand2AtInterface
 
 -- demand 3 of both schemes
 pub record Demand3 : Type 0 where
   pub ofAltdude : Demand3Of altdude.scheme
-  pub ofLace : Demand3Of (lace.scheme isAllLdh)
+  pub ofLace : Demand3Of lace.scheme

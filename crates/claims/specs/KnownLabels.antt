@@ -1,9 +1,7 @@
--- The starred cells of the scope paper's known spellings: one table, and one test over it.
+-- The starred cells of the scope paper's known spellings: one table, and the equations that it stands for.
 use Prim.Native.Nat.{ℕ}
-use mathlib.Core.Bool.{Bool, true, false}
+use mathlib.Core.Path.{_≡_}
 use mathlib.Core.List.{List, [], _∷_}
-use lib.Dec.{eqb}
-use Rattle.basis.specs.Tests.{both}
 use Rattle.altdude.specs.Encoding as altdude
 use Rattle.lace.specs.Encoding as lace
 
@@ -12,22 +10,15 @@ pub data Cell : Type 0 where
   altdudeCell : List ℕ → List ℕ → Cell
   laceCell : List ℕ → List ℕ → Cell
 
--- two rows are the same
-unfoldable pub same : List ℕ → List ℕ → Bool
-same [] [] = true
-same [] (y ∷ ys) = false
-same (x ∷ xs) [] = false
-same (x ∷ xs) (y ∷ ys) = both (eqb x y) (same xs ys)
-
 -- the text's label is the one of the cell
-unfoldable pub holds : Cell → Bool
-holds (altdudeCell text label) = same (altdude.labelOf text) label
-holds (laceCell text label) = same (lace.labelOf text) label
+abbrev pub Spells : Cell → Type 0
+Spells (altdudeCell text label) = altdude.labelOf text ≡ label
+Spells (laceCell text label) = lace.labelOf text ≡ label
 
--- every cell holds
-unfoldable pub allHold : List Cell → Bool
-allHold [] = true
-allHold (cell ∷ cells) = both (holds cell) (allHold cells)
+-- so it is in every cell: an equation for each
+abbrev pub AllSpell : List Cell → Type 0
+AllSpell [] = Unit {0}
+AllSpell (cell ∷ cells) = Spells cell × AllSpell cells
 
 -- the eleven cells, row by row
 unfoldable pub knownLabels : List Cell
@@ -44,3 +35,7 @@ knownLabels =
     ∷ laceCell (0x12f ∷ 0x111 ∷ 0x149 ∷ 0xe5 ∷ []) (108 ∷ 113 ∷ 45 ∷ 45 ∷ 97 ∷ 109 ∷ 97 ∷ 115 ∷ 54 ∷ 101 ∷ 107 ∷ 106 ∷ 97 ∷ 101 ∷ 97 ∷ 111 ∷ 107 ∷ [])
     ∷ altdudeCell (0x305d ∷ 0x306e ∷ 0x30b9 ∷ 0x30d4 ∷ 0x30fc ∷ 0x30c9 ∷ 0x3067 ∷ []) (118 ∷ 115 ∷ 118 ∷ 112 ∷ 118 ∷ 100 ∷ 55 ∷ 104 ∷ 121 ∷ 112 ∷ 117 ∷ 105 ∷ 118 ∷ 102 ∷ 52 ∷ 113 ∷ [])
     ∷ []
+
+-- the known spellings: the equations of all eleven cells
+abbrev pub KnownLabels : Type 0
+KnownLabels = AllSpell knownLabels

@@ -169,12 +169,8 @@ unfolding unitsOutcome refusedIf
 octets-short us h = rw (le-ltb 63 (4 + quintetCount (length (octetsOf us))) (omega arith))
 
 -- the octets of units stand first in their buffer
-module _ (us : List ℕ) (n : ℕ) (count : n ≡ length (octetsOf us)) (now old : List ℕ) (left : now ≡ octetsOf us ++ drop (length (octetsOf us)) old) where
-  pub octets-lent : n ≡ length (take n now)
-  octets-lent = front-long n (octetsOf us) _ now count left
-
-  pub octets-are : take n now ≡ octetsOf us
-  octets-are = front-is n (octetsOf us) _ now count left
+pub octets-are : (us : List ℕ) (n : ℕ) → n ≡ length (octetsOf us) → (now old : List ℕ) → now ≡ octetsOf us ++ drop (length (octetsOf us)) old → take n now ≡ octetsOf us
+octets-are us n count now old left = front-is n (octetsOf us) _ now count left
 
 -- the returns of `encode_units`: the answer and the buffer
 module _ (us label : List ℕ) where

@@ -12,8 +12,8 @@ use Rattle.basis.proofs.Tests.{cases}
 use Rattle.basis.proofs.Lists.{below-none, below-more, below-tail}
 use Rattle.wire.specs.Bytes.{toBytes}
 use Rattle.wire.proofs.RoundTrip.{length-toBytes, bytes-below}
-use Rattle.lace.specs.Octets.{unitOf, Run, run, runUnits, runOctets, changeBetween, changes, runCount}
-use Rattle.lace.specs.Encoding.{joinRun, longestRuns, octetsOf}
+use Rattle.lace.specs.Octets.{unitOf, Run, run, runUnits, changeBetween, changes, runCount}
+use Rattle.lace.specs.Encoding.{joinRun, longestRuns, runOctets, octetsOf}
 use Rattle.lace.specs.Stepping.{sameHigh, runStep, runSteps}
 
 -- the low octets of the first run if it has this high octet

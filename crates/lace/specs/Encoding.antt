@@ -9,7 +9,7 @@ use Rattle.base32.specs.Alphabet.{lace}
 use Rattle.base32.specs.Base32.{charactersOf}
 use Rattle.wire.specs.Bytes as wire
 use Rattle.lace.specs.Prefix.{prefix}
-use Rattle.lace.specs.Octets.{Run, run, runOctets}
+use Rattle.lace.specs.Octets.{Run, run}
 
 -- one unit more before a row of runs: it joins the first run if their high octets are equal
 unfoldable pub joinRun : ℕ → List Run → List Run
@@ -20,6 +20,11 @@ joinRun u (run high lows ∷ runs) = pick (eqb (u / 256) high) (run high (u % 25
 unfoldable pub longestRuns : List ℕ → List Run
 longestRuns [] = []
 longestRuns (u ∷ us) = joinRun u (longestRuns us)
+
+-- the octets of a row of runs: for each its count, its high octet and its low octets
+unfoldable pub runOctets : List Run → List ℕ
+runOctets [] = []
+runOctets (run high lows ∷ runs) = length lows ∷ high ∷ (lows ++ runOctets runs)
 
 -- the octets of a row of units, of n units in r runs: the runs if 2r + n is at most 2n, else FF and all units,
 -- high octet first

@@ -1,9 +1,8 @@
--- Units as octets: runs (the paper's stretches) of units with equal high octet, and LDH rows.
+-- Runs (the paper's stretches) of units with equal high octet, and LDH rows.
 use Prim.Native.Nat.{ℕ, suc, _+_, _*_, _/_}
 use mathlib.Core.Bool.{Bool}
 use mathlib.Core.List.{List, [], _∷_, _++_, map}
 use lib.Dec.{eqb}
-use lib.ListN.{length}
 use Rattle.basis.specs.Tests.{pick, everyIn}
 use Rattle.utf16.specs.Points.{isLdh}
 
@@ -19,11 +18,6 @@ pub data Run : Type 0 where
 unfoldable pub runUnits : List Run → List ℕ
 runUnits [] = []
 runUnits (run high lows ∷ runs) = map (unitOf high) lows ++ runUnits runs
-
--- for each run its count, its high octet and its low octets
-unfoldable pub runOctets : List Run → List ℕ
-runOctets [] = []
-runOctets (run high lows ∷ runs) = length lows ∷ high ∷ (lows ++ runOctets runs)
 
 -- 1 where two neighbours differ in high octet, else 0
 unfoldable pub changeBetween : ℕ → ℕ → ℕ

@@ -182,13 +182,17 @@ pub(crate) fn decode_octets(octets: &[u8], text: &mut [u32]) -> PointsAnswer
 {
     let mut units = [0u16; 36];
     let n = put_units(octets, &mut units);
-    if !stand_for_units(octets, &units[..n]) {
+    let row = &units[..n];
+    let stands = stand_for_units(octets, row);
+    let unpaired = utf16::units::first_unpaired(row);
+    let all_ldh = octets::units_all_ldh(row);
+    if !stands {
         return utf16::points_error(ErrorCode::NotWellFormed, 0);
     }
-    if utf16::units::first_unpaired(&units[..n]) < n {
+    if unpaired < n {
         return utf16::points_error(ErrorCode::NotWellFormed, 0);
     }
-    if octets::units_all_ldh(&units[..n]) {
+    if all_ldh {
         return utf16::points_error(ErrorCode::AllLdh, 0);
     }
     utf16::to_points(&units, UnitCount(n), text)

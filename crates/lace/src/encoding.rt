@@ -103,7 +103,8 @@ fn put_label(octets: &[u8], label: &mut [u8]) -> BytesAnswer
 {
     prefix::put_prefix(label);
     let answer = base32::encode(octets, &mut label[4..]);
-    BytesAnswer::Bytes(ByteCount(4 + basis::bytes_written(answer)))
+    let count = 4 + basis::bytes_written(answer);
+    BytesAnswer::Bytes(ByteCount(count))
 }
 
 // Writes the label of units that may be written, or refuses a label over 63 bytes.
@@ -113,12 +114,18 @@ pub(crate) fn encode_units(units: &[u16], label: &mut [u8]) -> BytesAnswer
     ensures { λ _. ⌜ now (label .exit) ≡ bufferAfter (unitsOutcome (now (units .entry))) (prefix ++ charactersOf lace (octetsOf (now (units .entry)))) (now (label .entry)) ⌝ }
 {
     if 34 < units.len() {
-        return basis::bytes_error(ErrorCode::TooLong, 0);
+        return BytesAnswer::Error {
+            code: ErrorCode::TooLong,
+            position: 0,
+        };
     }
     let mut octets = [0u8; 102];
     let n = put_octets(units, &mut octets);
     if 36 < n {
-        return basis::bytes_error(ErrorCode::TooLong, 0);
+        return BytesAnswer::Error {
+            code: ErrorCode::TooLong,
+            position: 0,
+        };
     }
     put_label(&octets[..n], label)
 }

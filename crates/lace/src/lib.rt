@@ -31,7 +31,8 @@ pub fn encode(text: &[u32], label: &mut [u8]) -> BytesAnswer
         }
         Check::Passed => {}
     }
-    if octets::text_all_ldh(text) {
+    let all_ldh = octets::text_all_ldh(text);
+    if all_ldh {
         return basis::bytes_error(ErrorCode::AllLdh, 0);
     }
     if 34 < text.len() {
@@ -54,13 +55,14 @@ pub fn decode(label: &[u8], text: &mut [u32]) -> PointsAnswer
     ensures { λ _. ⌜ now (text .exit) ≡ bufferAfter (decodeOutcome isAllLdh (length (now (text .entry))) (now (label .entry))) (textOf (now (label .entry))) (now (text .entry)) ⌝ }
 {
     let check = labels::check_label(label.len(), text.len());
+    let prefixed = prefix::has_prefix(label);
     match check {
         Check::Error { code, position } => {
             return utf16::points_error(code, position);
         }
         Check::Passed => {}
     }
-    if !prefix::has_prefix(label) {
+    if !prefixed {
         return utf16::points_error(ErrorCode::NoPrefix, 0);
     }
     let mut octets = [0u8; 36];

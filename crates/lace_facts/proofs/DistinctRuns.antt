@@ -1,15 +1,16 @@
 -- Laws on runs whose neighbours differ and that have units: the longest runs are such, and such runs are the longest of their units.
-use Prim.Native.Nat.{ℕ, suc, _/_, _%_, _<_}
+use Prim.Native.Nat.{ℕ, suc, _/_, _%_, _≤_, _<_}
 use mathlib.Core.Path.{_≡_, refl, _∙_}
 use mathlib.Core.List.{List, [], _∷_, _++_, map}
 use lib.Dec.{eqb}
+use lib.ListN.{length}
 use borrow.Author.Tests.{eqb-true, eqb-false, eq-eqb, ne-eqb}
 use native.Mathlib.Omega.{arith}
 use Rattle.basis.specs.Rows.{AllBelow}
 use Rattle.basis.proofs.Tests.{cases}
 use Rattle.basis.proofs.Lists.{below-tail, below-left, below-right}
-use Rattle.lace.specs.Octets.{unitOf, Run, run, runUnits, runOctets}
-use Rattle.lace.specs.Encoding.{longestRuns}
+use Rattle.lace.specs.Octets.{unitOf, Run, run, runUnits}
+use Rattle.lace.specs.Encoding.{longestRuns, runOctets}
 use Rattle.lace_facts.specs.WellFormed.{Counted, Differ}
 use Rattle.lace.proofs.Runs.{lowsUnder, runsAfter, join-is, longest-is}
 
@@ -46,6 +47,10 @@ runs-differ (u ∷ us) =
     (differ-more (u / 256) (u % 256 ∷ lowsUnder (u / 256) (longestRuns us)) (runsAfter (u / 256) (longestRuns us)) (a .0) (a .1))
 
 -- each has a unit
+pub counted-some : (h : ℕ) (lows : List ℕ) (rs : List Run) → Counted (run h lows ∷ rs) → 1 ≤ length lows
+unfolding Counted
+counted-some h lows rs c = omega (arith, c .0)
+
 after-counted : (h : ℕ) (rs : List Run) → Counted rs → Counted (runsAfter h rs)
 unfolding runsAfter Counted
 after-counted h [] c = c
@@ -81,7 +86,7 @@ longest-run h l (m ∷ lows) us rs e a b =
 pub distinct-runs : (rs : List Run) → Differ rs → Counted rs → AllBelow 256 (runOctets rs) → longestRuns (runUnits rs) ≡ rs
 unfolding runUnits longestRuns Counted runOctets
 distinct-runs [] d c b = refl
-distinct-runs (run h [] ∷ rs) d c b = absurd (omega (arith, c .0))
+distinct-runs (run h [] ∷ rs) d c b = absurd (omega (arith, counted-some h [] rs c))
 distinct-runs (run h (l ∷ lows) ∷ rs) d c b =
     let t = differ-tail h (l ∷ lows) rs d in
     let g : AllBelow 256 (l ∷ lows ++ runOctets rs) = λ i k. b (suc (suc i)) (omega arith) in

@@ -1,35 +1,38 @@
--- Laws on labels: the octets of the characters are those of the rules of form, and a label that passes the tests is formed.
-use Prim.Native.Nat.{ℕ, _≤_}
-use mathlib.Core.Path.{_≡_, refl, sym, ap, _∙_, fun-ext, subst}
+-- Laws on labels: a label that keeps the rules of form passes the tests and is read as its units, and a label that passes them keeps
+-- the rules.
+use Prim.Native.Nat.{ℕ, _+_, _*_, _/_, _%_, _≤_, _<_}
+use mathlib.Core.Path.{_≡_, sym, ap, _∙_}
 use mathlib.Core.Bool.{true}
 use mathlib.Core.Logic.{_↔_}
 use mathlib.Core.List.{List, map, map-map}
 use lib.ListN.{length, length-drop, length-map}
+use lib.Seq.{ext-getD}
 use borrow.Author.Tests.{eq-eqb, eqb-true}
 use native.Mathlib.Omega.{arith}
 use Rattle.basis.specs.Rows.{at, tabulate, AllBelow}
 use Rattle.basis.specs.Case.{small}
 use Rattle.basis.proofs.Tests.{both-left, both-right, both-true, at-each, none-iff, each-at, first-before, first-none}
-use Rattle.basis.proofs.Lists.{map-same, row-tabulate, tabulate-at, row-below}
+use Rattle.basis.proofs.Lists.{map-same, length-tabulate, at-tabulate, row-below}
 use Rattle.basis.proofs.Case.{small-small}
 use Rattle.utf16.specs.Units.{toPoints, unpairedAt, firstUnpaired}
 use Rattle.utf16.proofs.RoundTrip.{length-toPoints}
 use Rattle.base32.specs.Alphabet.{lace, valueOf, isCharacter, valuesOf}
-use Rattle.base32.specs.Bits.{rowBit, group, regroup}
-use Rattle.base32.specs.Form.{octetCount, isLawful}
+use Rattle.base32.specs.Bits.{bitOf, rowBit, group, regroup}
+use Rattle.base32.specs.Form.{octetCount, lengthLawful, isLawful}
 use Rattle.base32.specs.Base32.{quintetCount, toOctets}
 use Rattle.base32.specs.Answer.{firstOutside}
 use Rattle.base32.proofs.Inverse.{value-same}
-use Rattle.base32.proofs.Bits.{rowBit-lt, bits-back, row-back}
-use Rattle.base32.proofs.Regroup.{length-toOctets, toOctets-below, octets-past, count-lawful}
+use Rattle.base32.proofs.Bits.{fromBits-same, rowBit-lt, bits-back, row-back}
+use Rattle.base32.proofs.Regroup.{length-toOctets, toOctets-below, count-lawful}
 use Rattle.base32.proofs.Values.{length-values, octets-tabulate}
 use Rattle.lace.specs.Prefix.{hasPrefix, afterPrefix}
-use Rattle.lace_facts.specs.WellFormed.{OctetsIn, StandFor, Formed}
 use Rattle.lace.specs.Decoding.{unitsOf, standForUnits, labelOctets, labelUnits, isReadable, textOf}
-use Rattle.lace_facts.proofs.PrefixLaws.{at-small, prefix-iff, prefix-small, after-small}
 use Rattle.lace.proofs.Runs.{units-few}
 use Rattle.lace.proofs.DecodeLaws.{units-le}
-use Rattle.lace_facts.proofs.UnitOctets.{stand-read, units-some, stand-decided, stand-units}
+use Rattle.lace_facts.specs.WellFormed.{OctetsIn, StandFor, Formed}
+use Rattle.lace_facts.proofs.PrefixLaws.{at-small, prefix-iff, prefix-small, after-small}
+use Rattle.lace_facts.proofs.UnitOctets.{stand-read, units-some}
+use Rattle.lace_facts.proofs.StandFor.{stand-units, form-stands, stands-form}
 
 -- the values look at the small forms alone
 value-small : (b : ℕ) → valueOf lace (small b) ≡ valueOf lace b
@@ -67,29 +70,18 @@ case-same f small-same l k e = sym (small-same l) ∙ ap f e ∙ small-same k
 pub units-case : (l k : List ℕ) → map small l ≡ map small k → labelUnits l ≡ labelUnits k
 units-case = case-same labelUnits units-small
 
--- the octets that the rules of form speak of are those that are read: the bits say each of them, and past them all are zero
-module _ (cs os : List ℕ) where
-  octets-are : OctetsIn cs os → os ≡ toOctets (valuesOf lace cs)
-  unfolding regroup
-  octets-are o =
-      sym (tabulate-at os)
-      ∙ ap (tabulate (length os)) (fun-ext (λ i. sym (row-back 8 (at os) i (row-below 256 os (omega arith) (o .small) i)) ∙ ap (λ (bits : ℕ → ℕ). group 8 bits i) (fun-ext (o .bits))))
-      ∙ sym (octets-tabulate lace cs (length os) (o .count))
-
-  octets-in : isLawful (valuesOf lace cs) ≡ true → os ≡ toOctets (valuesOf lace cs) → OctetsIn cs os
-  unfolding regroup isLawful toOctets
-  octets-in lawful e =
-      let qs = valuesOf lace cs in
-      record {
-        count = ap length e ∙ length-toOctets qs ∙ ap octetCount (length-values lace cs);
-        small = subst (AllBelow 256) (sym e) (toOctets-below qs);
-        bits = λ k.
-            ap (λ (row : ℕ → ℕ). rowBit 8 row k) (ap at e ∙ fun-ext (row-tabulate (octetCount (length qs)) (regroup 5 8 (at qs)) (octets-past qs (both-right _ _ lawful))))
-            ∙ bits-back 8 (rowBit 5 (at qs)) (omega arith) (rowBit-lt 5 (at qs)) k;
-      }
-
-pub octets-iff : (cs os : List ℕ) → isLawful (valuesOf lace cs) ≡ true → OctetsIn cs os ↔ (os ≡ toOctets (valuesOf lace cs))
-octets-iff cs os lawful = (octets-are cs os, octets-in cs os lawful)
+-- the octets that the rules of form speak of are those that are read: each is made of its bits
+octets-are : (cs os : List ℕ) → OctetsIn cs os → os ≡ toOctets (valuesOf lace cs)
+unfolding regroup group
+octets-are cs os o =
+    let bits = rowBit 5 (at (valuesOf lace cs)) in
+    let row = group 8 bits in
+    ext-getD 0 os (tabulate (length os) row) (sym (length-tabulate (length os) row))
+    (λ i h.
+    sym (row-back 8 (at os) i (row-below 256 os (omega arith) (o .small) i))
+    ∙ fromBits-same 8 (λ j. rowBit 8 (at os) (8 * i + j)) (λ j. bits (8 * i + j)) (λ j g. o .bits (8 * i + j) (omega arith))
+    ∙ sym (at-tabulate (length os) row i h))
+    ∙ sym (octets-tabulate lace cs (length os) (o .count))
 
 -- the octets of a label are octets, and few
 pub label-octets-below : (l : List ℕ) → AllBelow 256 (labelOctets l)
@@ -111,11 +103,10 @@ pub text-fits : (l : List ℕ) → length (textOf l) ≤ length l
 unfolding textOf labelUnits
 text-fits l = omega (arith, length-toPoints (labelUnits l), units-le (labelOctets l), label-octets-count l, length-drop 4 l)
 
--- lawful characters, one or more, hold one octet or more
-lawful-some : (l : List ℕ) → 1 ≤ length (afterPrefix l) → isLawful (valuesOf lace (afterPrefix l)) ≡ true → 1 ≤ length (labelOctets l)
-unfolding isLawful
+-- characters of a lawful number, one or more, hold one octet or more
+lawful-some : (l : List ℕ) → 1 ≤ length (afterPrefix l) → lengthLawful (length (afterPrefix l)) ≡ true → 1 ≤ length (labelOctets l)
 lawful-some l some lawful =
-    let e : quintetCount (length (labelOctets l)) ≡ length (afterPrefix l) = rw label-octets-count (count-lawful (length (afterPrefix l)) (rw length-values at (both-left _ _ lawful))) in
+    let e : quintetCount (length (labelOctets l)) ≡ length (afterPrefix l) = rw label-octets-count (count-lawful (length (afterPrefix l)) lawful) in
     omega arith
 
 -- a label passes the tests
@@ -150,18 +141,73 @@ module _ (l : List ℕ) (p : Passes l) where
   unfolding isReadable
   passes-paired = eqb-true _ _ (both-right _ _ (both-right _ _ (p .readable)))
 
--- the test holds exactly where some units make the label formed, and those are the units that are read
+-- a label that keeps the rules of form with some units passes the tests, and those are the units that are read
+module _ (l units : List ℕ) (f : Formed l units) where
+  formed-short : length l ≤ 63
+  formed-short = omega (arith, f .short)
+
+  octets-same : f .octets ≡ labelOctets l
+  unfolding labelOctets
+  octets-same = octets-are (afterPrefix l) (f .octets) (f .octetsIn)
+
+  formed-stand : StandFor (labelOctets l) units
+  formed-stand = rw octets-same at (f .standFor)
+
+  pub formed-units : units ≡ labelUnits l
+  unfolding labelUnits
+  formed-units = stand-units (labelOctets l) units (label-octets-below l) (octets-short l formed-short) formed-stand
+
+  formed-lawful : isLawful (valuesOf lace (afterPrefix l)) ≡ true
+  unfolding isLawful
+  formed-lawful = both-true (rw length-values (f .lawful)) (f .spare)
+
+  formed-some : 1 ≤ length (labelOctets l)
+  formed-some = lawful-some l (omega (arith, f .some)) (f .lawful)
+
+  formed-paired : firstUnpaired (labelUnits l) ≡ length (labelUnits l)
+  unfolding firstUnpaired
+  formed-paired = rw (← formed-units) (first-none (length units) (unpairedAt 0 units) (f .paired))
+
+  pub formed-passes : Passes l
+  unfolding isReadable firstOutside
+  formed-passes = record {
+    short = formed-short;
+    first = prefix-iff l .1 (f .first);
+    inside = none-iff _ _ .1 (each-at _ _ (f .characters));
+    readable = both-true formed-lawful
+        (both-true (form-stands (labelOctets l) units (label-octets-below l) formed-some (octets-short l formed-short) formed-stand)
+        (eq-eqb _ _ formed-paired));
+  }
+
+-- the octets that are read are those that the rules of form speak of
+bits-read : (qs : List ℕ) (k : ℕ) → k < 8 * octetCount (length qs) → rowBit 8 (at (toOctets qs)) k ≡ rowBit 5 (at qs) k
+unfolding regroup toOctets rowBit
+bits-read qs k h =
+    ap (λ (x : ℕ). bitOf 8 x (k % 8)) (at-tabulate (octetCount (length qs)) (regroup 5 8 (at qs)) (k / 8) (omega arith))
+    ∙ bits-back 8 (rowBit 5 (at qs)) (omega arith) (rowBit-lt 5 (at qs)) k
+
+octets-in : (cs : List ℕ) → OctetsIn cs (toOctets (valuesOf lace cs))
+octets-in cs =
+    let qs = valuesOf lace cs in
+    record {
+      count = length-toOctets qs ∙ ap octetCount (length-values lace cs);
+      small = toOctets-below qs;
+      bits = λ k h. bits-read qs k (rw (length-toOctets qs) at h);
+    }
+
+-- a label that passes the tests keeps the rules of form with the units that are read
 pub passes-formed : (l : List ℕ) → Passes l → Formed l (labelUnits l)
-unfolding labelUnits labelOctets firstOutside firstUnpaired
+unfolding labelUnits labelOctets firstOutside firstUnpaired isLawful
 passes-formed l p = record {
   short = p .short;
   first = prefix-iff l .0 (p .first);
   characters = at-each _ _ (none-iff _ _ .0 (p .inside));
   some = omega (arith, one, label-octets-count l);
-  lawful = passes-lawful l p;
+  lawful = rw length-values at (both-left _ _ (passes-lawful l p));
+  spare = both-right _ _ (passes-lawful l p);
   octets = labelOctets l;
-  octetsIn = octets-iff (afterPrefix l) (labelOctets l) (passes-lawful l p) .1 refl;
-  standFor = stand (stand-decided (labelOctets l) (label-octets-below l) one (octets-short l (p .short)) .0 (passes-stand l p));
+  octetsIn = octets-in (afterPrefix l);
+  standFor = stands-form (labelOctets l) (label-octets-below l) (passes-stand l p);
   paired = λ i h. first-before (length (labelUnits l)) (unpairedAt 0 (labelUnits l)) i (rw (passes-paired l p) h);
 }
   where
@@ -169,36 +215,6 @@ passes-formed l p = record {
     one =
         let os = labelOctets l in
         omega (arith, units-few (unitsOf os) (units-some os (passes-stand l p)), ap length (stand-read os (label-octets-below l) (passes-stand l p)))
-
-    stand : (units : List ℕ) × StandFor (labelOctets l) units → StandFor (labelOctets l) (unitsOf (labelOctets l))
-    stand (units, s) = rw (stand-units (labelOctets l) units (label-octets-below l) (octets-short l (p .short)) s) at s
-
-module _ (l units : List ℕ) (f : Formed l units) where
-  octets-same : f .octets ≡ labelOctets l
-  unfolding labelOctets
-  octets-same = octets-iff (afterPrefix l) (f .octets) (f .lawful) .0 (f .octetsIn)
-
-  stands : StandFor (labelOctets l) units
-  stands = rw octets-same at (f .standFor)
-
-  pub formed-units : units ≡ labelUnits l
-  unfolding labelUnits
-  formed-units = stand-units (labelOctets l) units (label-octets-below l) (octets-short l (f .short)) stands
-
-  all-paired : firstUnpaired (labelUnits l) ≡ length (labelUnits l)
-  unfolding firstUnpaired
-  all-paired = rw (← formed-units) (first-none (length units) (unpairedAt 0 units) (f .paired))
-
-  pub formed-passes : Passes l
-  unfolding isReadable firstOutside
-  formed-passes = record {
-    short = f .short;
-    first = prefix-iff l .1 (f .first);
-    inside = none-iff _ _ .1 (each-at _ _ (f .characters));
-    readable = both-true (f .lawful)
-        (both-true (stand-decided (labelOctets l) (label-octets-below l) (lawful-some l (f .some) (f .lawful)) (octets-short l (f .short)) .1 (units, stands))
-        (eq-eqb _ _ all-paired));
-  }
 
 pub formed-iff : (l : List ℕ) → Passes l ↔ ((units : List ℕ) × Formed l units)
 formed-iff l = (λ p. (labelUnits l, passes-formed l p), λ f. formed-passes l (f .0) (f .1))

@@ -2,6 +2,8 @@
 pub mod PrefixLaws
 pub mod DistinctRuns
 pub mod UnitOctets
+pub mod StandFor
 pub mod Label
+pub mod Reserved
 pub mod Settled
 pub mod SchemeFacts

@@ -1,7 +1,7 @@
 -- The causes of refusal settle what encoding and decoding answer.
 use Prim.Native.Nat.{ℕ, _+_, _≤_, _<_}
 use mathlib.Core.Path.{_≡_, refl, sym, ap, _∙_}
-use mathlib.Core.Bool.{Bool, true, not}
+use mathlib.Core.Bool.{true, not}
 use mathlib.Core.Logic.{_↔_, Iff·rfl}
 use mathlib.Core.List.{List, _∷_}
 use lib.ListN.{length}
@@ -18,9 +18,10 @@ use Rattle.lace.specs.Encoding.{labelOf}
 use Rattle.lace_facts.specs.WellFormed.{Formed}
 use Rattle.lace.specs.Decoding.{isReadable, labelUnits, textOf}
 use Rattle.lace.specs.Answer.{encodeOutcome, decodeOutcome}
-use Rattle.lace_facts.specs.Causes.{OutsideAfterPrefix, NotFormed, OnlyReserved, textCauses, labelCauses}
+use Rattle.lace_facts.specs.Causes.{OutsideAfterPrefix, NotFormed, OnlyAllLdh, textCauses, labelCauses}
 use Rattle.lace_facts.proofs.PrefixLaws.{prefix-iff}
 use Rattle.lace_facts.proofs.Label.{Passes, passes-formed, formed-units, formed-iff}
+use Rattle.lace_facts.proofs.Reserved.{reserved}
 
 -- given the earlier tests, the later ones fail exactly where their causes stand
 module _ (l : List ℕ) (short : length l ≤ 63) (first : hasPrefix l ≡ true) (inside : firstOutside lace (afterPrefix l) ≡ length (afterPrefix l)) where
@@ -33,27 +34,27 @@ module _ (l : List ℕ) (short : length l ≤ 63) (first : hasPrefix l ≡ true)
   pub unreadable-iff : (not (isReadable l) ≡ true) ↔ NotFormed l
   unreadable-iff = let i = fails-iff (isReadable l) readable-iff in (λ e units f. i .0 e (units, f), λ n. i .1 (λ f. n (f .0) (f .1)))
 
-  pub reserved-iff : (reserved : List ℕ → Bool) → isReadable l ≡ true → (reserved (labelUnits l) ≡ true) ↔ OnlyReserved reserved l
-  reserved-iff reserved e = (
+  pub reserved-iff : isReadable l ≡ true → (reserved (labelUnits l) ≡ true) ↔ OnlyAllLdh l
+  reserved-iff e = (
     λ r. (labelUnits l, passes-formed l (passes e), r),
     λ f. ap reserved (sym (formed-units l (f .0) (f .1))) ∙ f .2,
   )
 
-pub decode-settled : (reserved : List ℕ → Bool) (capacity : ℕ) (l : List ℕ) → Settles (whole 1 (capacity < 63) ∷ labelCauses reserved l) (length (textOf l)) (decodeOutcome reserved capacity l)
+pub decode-settled : (capacity : ℕ) (l : List ℕ) → Settles (whole 1 (capacity < 63) ∷ labelCauses l) (length (textOf l)) (decodeOutcome reserved capacity l)
 unfolding decodeOutcome firstOutside
-decode-settled reserved capacity l =
+decode-settled capacity l =
     settle-label capacity l
     (λ _ short. settle-whole _ 8 (fails-iff (hasPrefix l) (prefix-iff l))
     (λ p.
     let first = not-false _ p in
     settle-place (length (afterPrefix l)) (λ k. not (isCharacter lace (at (afterPrefix l) k))) (placed 7 (OutsideAfterPrefix l)) (λ i. 4 + i) (λ i h. (i, refl, h)) (λ p h. h)
     (λ inside. settle-whole _ 9 (unreadable-iff l short first inside)
-    (λ r. settle-whole _ 6 (reserved-iff l short first inside reserved (not-false _ r))
+    (λ r. settle-whole _ 6 (reserved-iff l short first inside (not-false _ r))
     (λ _. settle-done (length (textOf l)))))))
 
-pub encode-settled : (reserved : List ℕ → Bool) (capacity : ℕ) (t : List ℕ) → Settles (whole 1 (capacity < 63) ∷ textCauses reserved t) (length (labelOf t)) (encodeOutcome reserved capacity t)
+pub encode-settled : (capacity : ℕ) (t : List ℕ) → Settles (whole 1 (capacity < 63) ∷ textCauses t) (length (labelOf t)) (encodeOutcome reserved capacity t)
 unfolding encodeOutcome
-encode-settled reserved capacity t =
+encode-settled capacity t =
     settle-text capacity t
     (settle-whole _ 6 Iff·rfl
     (λ _. settle-whole _ 3 (ltb-iff 63 (length (labelOf t)))

@@ -1,8 +1,7 @@
--- Laws on octets and units, there and back, and on the rules of form that octets keep.
+-- Laws on octets and units: what is written is read as its units, and what is read is written as its octets.
 use Prim.Native.Nat.{ℕ, zero, suc, _+_, _*_, _%_, _≤_, _<_}
-use mathlib.Core.Path.{_≡_, refl, sym, ap, ap₂, _∙_, subst}
+use mathlib.Core.Path.{_≡_, refl, sym, ap, ap₂, _∙_}
 use mathlib.Core.Bool.{true, false, not}
-use mathlib.Core.Logic.{_↔_, inl, inr}
 use mathlib.Core.List.{List, [], _∷_, _++_, map}
 use lib.Dec.{ltb}
 use lib.ListN.{length, length-append, length-map, drop, length-drop}
@@ -16,14 +15,14 @@ use Rattle.basis.proofs.Lists.{below-none, below-more, below-tail, below-right}
 use Rattle.wire.specs.Bytes.{toBytes}
 use Rattle.wire.proofs.RoundTrip.{length-toBytes, units-back, bytes-back}
 use Rattle.wire.proofs.RoundTrip as wire
-use Rattle.lace.specs.Octets.{unitOf, Run, run, runUnits, runOctets, runCount}
-use Rattle.lace.specs.Encoding.{longestRuns, octetsOf}
-use Rattle.lace_facts.specs.WellFormed.{Counted, Differ, StandFor}
+use Rattle.lace.specs.Octets.{unitOf, Run, run, runUnits, runCount}
+use Rattle.lace.specs.Encoding.{longestRuns, runOctets, octetsOf}
+use Rattle.lace_facts.specs.WellFormed.{Counted, Differ}
 use Rattle.lace.specs.Decoding.{mayStand, placeAfter, mayEnd, unitAt, areRuns, unitsFrom, beginsFF, unitsOf, standForUnits}
 use Rattle.lace.specs.declared.decoding.Place.{Place}
 use Rattle.lace.specs.declared.decoding.Place.the-variants.{Count, High, Low}
-use Rattle.lace.proofs.Runs.{runs-join, runs-count, length-runOctets, octets-below, units-few}
-use Rattle.lace_facts.proofs.DistinctRuns.{Apart, differ-tail, differ-more, runs-differ, runs-counted, distinct-runs}
+use Rattle.lace.proofs.Runs.{runs-join, runs-count, octets-below}
+use Rattle.lace_facts.proofs.DistinctRuns.{Apart, differ-tail, differ-more, runs-differ, counted-some, runs-counted, distinct-runs}
 
 -- the place after a low octet, the last of a run and any other
 after-last : (h x : ℕ) → placeAfter (Low 1 h) x ≡ Count h
@@ -49,7 +48,7 @@ lows-read h l (m ∷ lows) os = rw (after-more (length lows) h l) (ap (λ (us : 
 runs-read : (previous : ℕ) (rs : List Run) → Counted rs → unitsFrom (Count previous) (runOctets rs) ≡ runUnits rs
 unfolding unitsFrom unitAt placeAfter runOctets runUnits Counted
 runs-read previous [] c = refl
-runs-read previous (run h [] ∷ rs) c = absurd (omega (arith, c .0))
+runs-read previous (run h [] ∷ rs) c = absurd (omega (arith, counted-some h [] rs c))
 runs-read previous (run h (l ∷ lows) ∷ rs) c =
     lows-read h l lows (runOctets rs) ∙ ap (λ (us : List ℕ). map (unitOf h) (l ∷ lows) ++ us) (runs-read h rs (c .1))
 
@@ -58,7 +57,7 @@ runs-stand : (previous : ℕ) (rs : List Run) → Counted rs → Differ rs → A
     → areRuns (Count previous) (runOctets rs) ≡ true
 unfolding areRuns mayStand mayEnd placeAfter runOctets Counted
 runs-stand previous [] c d a b some = ap not (ne-eqb previous 256 (λ e. omega (arith, some e)))
-runs-stand previous (run h [] ∷ rs) c d a b some = absurd (omega (arith, c .0))
+runs-stand previous (run h [] ∷ rs) c d a b some = absurd (omega (arith, counted-some h [] rs c))
 runs-stand previous (run h (l ∷ lows) ∷ rs) c d a b some =
     let t = differ-tail h (l ∷ lows) rs d in
     let below : AllBelow 256 (l ∷ lows ++ runOctets rs) = λ i k. b (suc (suc i)) (omega arith) in
@@ -68,16 +67,16 @@ runs-stand previous (run h (l ∷ lows) ∷ rs) c d a b some =
     ∙ runs-stand h rs (c .1) (t .1) (t .0) (below-right 256 (l ∷ lows) (runOctets rs) below) (λ e. absurd (omega (arith, b 1 (omega arith))))))
 
 -- the octets of units, by the number of their runs
-written-runs : (us : List ℕ) → 2 * runCount us ≤ length us → octetsOf us ≡ runOctets (longestRuns us)
+pub written-runs : (us : List ℕ) → 2 * runCount us ≤ length us → octetsOf us ≡ runOctets (longestRuns us)
 unfolding octetsOf
 written-runs us h = rw runs-count (rw (le-leb (2 * runCount us + length us) (2 * length us) (omega arith)))
 
-written-all : (us : List ℕ) → length us < 2 * runCount us → octetsOf us ≡ 0xff ∷ toBytes us
+pub written-all : (us : List ℕ) → length us < 2 * runCount us → octetsOf us ≡ 0xff ∷ toBytes us
 unfolding octetsOf
 written-all us h = rw runs-count (rw (lt-leb (2 * runCount us + length us) (2 * length us) (omega arith)))
 
 -- the units of either form
-units-all : (us : List ℕ) → unitsOf (0xff ∷ toBytes us) ≡ us
+pub units-all : (us : List ℕ) → unitsOf (0xff ∷ toBytes us) ≡ us
 unfolding unitsOf
 units-all us = units-back us
 
@@ -87,7 +86,7 @@ begins-count [] h = refl
 begins-count (run high lows ∷ rs) h =
     ne-eqb (length lows) 255 (λ e. omega (arith, length-append (map (unitOf high) lows) (runUnits rs), length-map lows (unitOf high)))
 
-units-runs : (rs : List Run) → Counted rs → length (runUnits rs) ≤ 254 → unitsOf (runOctets rs) ≡ runUnits rs
+pub units-runs : (rs : List Run) → Counted rs → length (runUnits rs) ≤ 254 → unitsOf (runOctets rs) ≡ runUnits rs
 unfolding unitsOf
 units-runs rs c h = rw (begins-count rs h) (runs-read 256 rs c)
 
@@ -273,50 +272,3 @@ units-some os e =
     cases (beginsFF os)
     (λ f. many-some (unitsOf os) (stand-all os f e .1))
     (λ f. rw f (from-some os (stand-runs os f e .0)))
-
--- the rules of form: what is written keeps them, and what keeps them is written so
-pub written-form : (us : List ℕ) → 1 ≤ length us → StandFor (octetsOf us) us
-written-form us some =
-    by-lt (length us) (2 * runCount us)
-    (λ h. inl (record { are = written-all us h; some = some; many = h }))
-    (λ h. inr (record {
-      runs = longestRuns us;
-      are = written-runs us h;
-      join = sym (runs-join us);
-      counted = runs-counted us;
-      differ = runs-differ us;
-      few = rw runs-count h;
-    }))
-
-pub form-written : (os units : List ℕ) → AllBelow 256 os → StandFor os units → octetsOf units ≡ os
-form-written os units b (inl a) = written-all units (a .many) ∙ sym (a .are)
-form-written os units b (inr r) =
-    let below : AllBelow 256 (runOctets (r .runs)) = rw (r .are) at b in
-    let longest : longestRuns units ≡ r .runs = ap longestRuns (r .join) ∙ distinct-runs (r .runs) (r .differ) (r .counted) below in
-    let count : runCount units ≡ length (r .runs) = sym (runs-count units) ∙ ap length longest in
-    written-runs units (rw count (r .few)) ∙ ap runOctets longest ∙ sym (r .are)
-
-pub stand-units : (os units : List ℕ) → AllBelow 256 os → length os ≤ 254 → StandFor os units → units ≡ unitsOf os
-stand-units os units b n (inl a) = sym (ap unitsOf (a .are) ∙ units-all units)
-stand-units os units b n (inr r) =
-    let few : length (runUnits (r .runs)) ≤ 254 = omega (arith, length-runOctets (r .runs), ap length (r .are)) in
-    r .join ∙ sym (ap unitsOf (r .are) ∙ units-runs (r .runs) (r .counted) few)
-
-form-some : (os units : List ℕ) → octetsOf units ≡ os → 1 ≤ length os → 1 ≤ length units
-unfolding octetsOf longestRuns runOctets
-form-some os [] e h = absurd (omega (arith, ap length e))
-form-some os (u ∷ units) e h = omega arith
-
--- octets, one or more, stand for units exactly as the rules say
-pub stand-decided : (os : List ℕ) → AllBelow 256 os → 1 ≤ length os → length os ≤ 254 → (standForUnits os ≡ true) ↔ ((units : List ℕ) × StandFor os units)
-stand-decided os b some n = (
-  λ e. (unitsOf os, subst (λ (x : List ℕ). StandFor x (unitsOf os)) (stand-read os b e) (written-form (unitsOf os) (units-some os e))),
-  λ p. back (p .0) (p .1),
-)
-  where
-    back : (units : List ℕ) → StandFor os units → standForUnits os ≡ true
-    back units s =
-        let w : octetsOf units ≡ os = form-written os units b s in
-        let one : 1 ≤ length units = form-some os units w some in
-        let below : AllBelow 0x10000 units = rw (stand-units os units b n s) (units-below os b) in
-        ap standForUnits (sym w) ∙ stand-written units below one (omega (arith, units-few units one, ap length w))

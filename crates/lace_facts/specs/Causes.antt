@@ -1,7 +1,7 @@
 -- The causes of refusal, each by itself, and LACE as a scheme.
 use Prim.Native.Nat.{ℕ, _+_, _<_}
 use mathlib.Core.Path.{_≡_}
-use mathlib.Core.Bool.{Bool, true}
+use mathlib.Core.Bool.{true}
 use mathlib.Core.List.{List, [], _∷_}
 use Rattle.basis.specs.Rows.{at}
 use Rattle.basis.specs.Case.{small}
@@ -12,6 +12,7 @@ use Rattle.labels.specs.Causes as labels
 use Rattle.base32.specs.Alphabet.{lace}
 use Rattle.base32.specs.Causes.{OutsideAt}
 use Rattle.lace.specs.Prefix.{prefix, afterPrefix}
+use Rattle.lace.specs.Octets.{isAllLdh}
 use Rattle.lace.specs.Encoding.{labelOf}
 use Rattle.lace_facts.specs.WellFormed.{Formed, WellFormed}
 use Rattle.lace.specs.Decoding.{textOf}
@@ -29,27 +30,27 @@ OutsideAfterPrefix l position = (i : ℕ) × (position ≡ 4 + i) × OutsideAt l
 abbrev pub NotFormed : List ℕ → Type 0
 NotFormed l = (units : List ℕ) → Formed l units → ⊥
 
--- 6: only the last rule stands against the label
-abbrev pub OnlyReserved : (List ℕ → Bool) → List ℕ → Type 0
-OnlyReserved reserved l = (units : List ℕ) × Formed l units × (reserved units ≡ true)
+-- 6: only the last rule fails, since all units are LDH
+abbrev pub OnlyAllLdh : List ℕ → Type 0
+OnlyAllLdh l = (units : List ℕ) × Formed l units × (isAllLdh units ≡ true)
 
 -- against writing a text, in order: 2, 4, 6, 3
-abbrev pub textCauses : (List ℕ → Bool) → List ℕ → List Cause
-textCauses reserved t = labels.textCauses t (whole 6 (reserved t ≡ true) ∷ whole 3 (TooLong (labelOf t)) ∷ [])
+abbrev pub textCauses : List ℕ → List Cause
+textCauses t = labels.textCauses t (whole 6 (isAllLdh t ≡ true) ∷ whole 3 (TooLong (labelOf t)) ∷ [])
 
 -- against reading a label, in order: 2, 3, 8, 7, 9, 6
-abbrev pub labelCauses : (List ℕ → Bool) → List ℕ → List Cause
-labelCauses reserved l =
-    labels.labelCauses l (whole 8 (NoPrefix l) ∷ placed 7 (OutsideAfterPrefix l) ∷ whole 9 (NotFormed l) ∷ whole 6 (OnlyReserved reserved l) ∷ [])
+abbrev pub labelCauses : List ℕ → List Cause
+labelCauses l =
+    labels.labelCauses l (whole 8 (NoPrefix l) ∷ placed 7 (OutsideAfterPrefix l) ∷ whole 9 (NotFormed l) ∷ whole 6 (OnlyAllLdh l) ∷ [])
 
 -- LACE as a scheme, of which the demands speak
-abbrev pub scheme : (List ℕ → Bool) → Scheme
-scheme reserved = record {
-  encodeOutcome = encodeOutcome reserved;
-  decodeOutcome = decodeOutcome reserved;
+abbrev pub scheme : Scheme
+scheme = record {
+  encodeOutcome = encodeOutcome isAllLdh;
+  decodeOutcome = decodeOutcome isAllLdh;
   labelOf = labelOf;
   textOf = textOf;
-  textCauses = textCauses reserved;
-  labelCauses = labelCauses reserved;
-  WellFormed = WellFormed reserved;
+  textCauses = textCauses;
+  labelCauses = labelCauses;
+  WellFormed = WellFormed;
 }

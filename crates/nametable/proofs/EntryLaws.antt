@@ -1,17 +1,17 @@
 -- Laws on one entry: each test answers in its turn, and what a good entry holds.
 use Prim.Native.Nat.{ℕ, zero, suc, _+_, _-_, _≤_, _<_}
-use mathlib.Core.Path.{_≡_, refl, ap, _∙_}
-use mathlib.Core.Bool.{Bool, true, false}
+use mathlib.Core.Path.{_≡_, refl, sym, ap, _∙_}
+use mathlib.Core.Bool.{Bool, true, false, not}
 use mathlib.Core.List.{List}
 use lib.Dec.{eqb}
 use lib.ListN.{length, take, drop, length-drop}
 use lib.Seq.{length-take-le, take-all, getD-drop}
-use borrow.Author.Tests.{lt-ltb, le-ltb, not-false}
+use borrow.Author.Tests.{lt-ltb, le-ltb, not-true, not-false}
 use native.Mathlib.Omega.{arith}
 use Rattle.basis.specs.Tests.{every, everyIn, within}
 use Rattle.basis.specs.Rows.{at}
 use Rattle.basis.specs.Outcome.{Outcome, done, refused, refusedIf}
-use Rattle.basis.proofs.Tests.{within-high}
+use Rattle.basis.proofs.Tests.{within-true, within-high}
 use Rattle.basis.proofs.Outcome.{passed}
 use Rattle.basis.specs.declared.ErrorCode.{ErrorCode}
 use Rattle.utf16.specs.Answer.{pointsOutcome}
@@ -77,6 +77,13 @@ module _ (s : Scheme) (least : ℕ) (e : List ℕ) (kind : kindNames (kindOf e) 
       pub by-label : isFilled e ≡ true → (label : List ℕ) → label ≡ labelIn e → entryJudged least e ≡ labelJudged (decodeOutcome s labelCapacity label) reader
       unfolding entryJudged refusedIf isKnown readerOf lengthOf schemeIn schemeNamed
       by-label h label l = rw (l, kind, ← is, le-ltb reader least rising, sized, h)
+
+-- the filling, by what the code tested
+pub not-filled-judged : (least : ℕ) (e : List ℕ) {s : Scheme} {reader : ℕ} {zeros : Bool} → length e ≡ entryLength → kindNames (kindOf e) ≡ Known s → reader ≡ numberAt e 1 → least ≤ reader
+    → 1 ≤ at e 3 → at e 3 ≤ labelCapacity → zeros ≡ everyIn (λ b. eqb b 0) (take (length e - (labelStart + at e 3)) (drop (labelStart + at e 3) e)) → not zeros ≡ true
+    → refused 14 0 ≡ entryJudged least e
+not-filled-judged least e long kind is rising some short zeros bad =
+    sym (not-filled _ least e kind _ is rising (within-true 1 labelCapacity (at e 3) some short) (filled-part e _ long short zeros ∙ not-true _ bad))
 
 -- the label's verdict, as the code gives it
 module _ (answer : PointsAnswer) (outcome : Outcome) (answers : pointsOutcome answer ≡ outcome) (reader : ℕ) where

@@ -9,6 +9,7 @@ use Rattle.basis.specs.Rows.{at}
 use Rattle.basis.specs.Outcome.{done, refused, bufferAfter}
 use Rattle.basis.specs.Outcome as basis
 use Rattle.basis.specs.declared.ErrorCode.{ErrorCode}
+use Rattle.basis.specs.declared.ErrorCode.the-variants.{Capacity, Malformed}
 use Rattle.utf16.specs.Answer.{pointsOutcome}
 use Rattle.utf16.specs.declared.PointCount.{PointCount}
 use Rattle.utf16.specs.declared.PointsAnswer.{PointsAnswer}
@@ -19,7 +20,9 @@ use Rattle.scheme.specs.declared.Scheme.{Scheme}
 use Rattle.scheme.specs.declared.Named.{Named}
 use Rattle.scheme.specs.declared.Named.the-variants.{Known}
 use Rattle.nametable.specs.Format.{numberAt, entryAt, kindOf, readerOf, labelIn, schemeNamed, schemeIn}
-use Rattle.nametable.specs.Answer.{readOutcome, EntryOutcome, notFound, entryOutcome, entryText, entryIn, findOutcome, counted}
+use Rattle.nametable.specs.Answer.{tableOutcome, readOutcome, EntryOutcome, notFound, entryOutcome, entryText, entryIn, findOutcome, counted}
+use Rattle.nametable.specs.declared.TableAnswer.{TableAnswer}
+use Rattle.nametable.specs.declared.TableAnswer.the-variants as table
 use Rattle.nametable.specs.declared.EntryAnswer.{EntryAnswer}
 use Rattle.nametable.specs.declared.EntryAnswer.the-variants as answer
 use Rattle.nametable.specs.Stepping.{Good, textIn, foundIn}
@@ -80,6 +83,31 @@ pub not-found-leaves : (o : EntryOutcome) (r : EntryAnswer) (values buffer : Lis
     → o ≡ notFound (basis.numberOf code) position → (entryOutcome r ≡ o) × (buffer ≡ bufferAfter (counted o) values buffer)
 unfolding entryOutcome counted bufferAfter
 not-found-leaves o r values buffer code position a e = (rw (a, e), rw e)
+
+-- want of room, and an index not below the number of entries, by what the code tested: the answer, and the buffer as it was
+module _ (t : List ℕ) (index capacity : ℕ) where
+  pub no-room-answered : {r : EntryAnswer} → capacity < 63 → r ≡ answer.Error Capacity 0 → entryOutcome r ≡ findOutcome t index capacity
+  unfolding entryOutcome basis.numberOf
+  no-room-answered h a = ap entryOutcome a ∙ sym (no-room t index capacity h)
+
+  pub no-room-left : (values buffer : List ℕ) → capacity < 63 → buffer ≡ bufferAfter (counted (findOutcome t index capacity)) values buffer
+  unfolding counted bufferAfter
+  no-room-left values buffer h = rw (no-room t index capacity h)
+
+  module _ {verdict : TableAnswer} {n : ℕ} where
+    no-index : 63 ≤ capacity → tableOutcome verdict ≡ readOutcome t → verdict ≡ table.Entries n → n ≤ index → findOutcome t index capacity ≡ notFound 14 0
+    unfolding tableOutcome
+    no-index room reads is h = no-entry t index capacity room n (sym reads ∙ ap tableOutcome is) h
+
+    pub no-entry-answered : {r : EntryAnswer} → 63 ≤ capacity → tableOutcome verdict ≡ readOutcome t → verdict ≡ table.Entries n → n ≤ index → r ≡ answer.Error Malformed 0
+        → entryOutcome r ≡ findOutcome t index capacity
+    unfolding entryOutcome basis.numberOf
+    no-entry-answered room reads is h a = ap entryOutcome a ∙ sym (no-index room reads is h)
+
+    pub no-entry-left : (values buffer : List ℕ) → 63 ≤ capacity → tableOutcome verdict ≡ readOutcome t → verdict ≡ table.Entries n → n ≤ index
+        → buffer ≡ bufferAfter (counted (findOutcome t index capacity)) values buffer
+    unfolding counted bufferAfter
+    no-entry-left values buffer room reads is h = rw (no-index room reads is h)
 
 -- an entry that is found in the table leaves its text
 pub found-leaves : (t buffer : List ℕ) (index n : ℕ) → 63 ≤ length buffer → readOutcome t ≡ done n → index < n

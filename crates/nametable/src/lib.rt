@@ -35,23 +35,25 @@ pub fn read(table: &[u8]) -> TableAnswer
     if table.len() == 0 {
         return entries::table_error(ErrorCode::Truncated, 0);
     }
-    if table[0] != 0x48 {
+    let kind = table[0];
+    if kind != 0x48 {
         return entries::table_error(ErrorCode::Malformed, 0);
     }
     if table.len() < 3 {
         return entries::table_error(ErrorCode::Truncated, 0);
     }
     let count = entries::number_at(table, 1);
+    let length = 3 + 67 * count;
     if count < 1 {
         return entries::table_error(ErrorCode::Malformed, 0);
     }
     if 500 < count {
         return entries::table_error(ErrorCode::Malformed, 0);
     }
-    if table.len() < 3 + 67 * count {
+    if table.len() < length {
         return entries::table_error(ErrorCode::Truncated, 0);
     }
-    if 3 + 67 * count < table.len() {
+    if length < table.len() {
         return entries::table_error(ErrorCode::Malformed, 0);
     }
     entries::judge(table, count)

@@ -1,11 +1,11 @@
 -- The lines of the entries one behind the other: the start, a line more, and the end; and the listing by the table's verdict.
 use Prim.Native.Nat.{ℕ, suc, _+_, _*_, _-_, _^_, _≤_, _<_}
-use mathlib.Core.Path.{_≡_}
+use mathlib.Core.Path.{_≡_, refl}
 use mathlib.Core.List.{List, _++_}
 use lib.ListN.{length, take, drop}
 use native.Mathlib.Numerals.{add-one}
 use native.Mathlib.Omega.{arith}
-use Rattle.basis.specs.Outcome.{done, numberOf}
+use Rattle.basis.specs.Outcome.{done, refusedIf, numberOf}
 use Rattle.basis.specs.declared.ErrorCode.{ErrorCode}
 use Rattle.basis.proofs.Tests.{within-high}
 use Rattle.nametable.specs.Format.{mostEntries, countOf}
@@ -19,6 +19,8 @@ use Rattle.report.specs.Answer.{lineRoom}
 use Rattle.report.proofs.Filling.{Filling, filling-none, filling-more}
 use Rattle.report.proofs.DigitLaws.{digits-length, count-few}
 use Rattle.report.proofs.LineLaws.{number-length, refused-at-length}
+use Rattle.streams.specs.Reading.{believed}
+use Rattle.streams.specs.declared.Ending.the-variants.{Failed}
 use Rattle.nametable_list.specs.Listing.{entryLine, entryLines, listing, listingAfter, HasEntry, listingRoom}
 use Rattle.nametable_list.proofs.EntryLines.{line-fits}
 
@@ -55,6 +57,11 @@ module _ (t : List ℕ) {total : ℕ} {old out : List ℕ} {at i : ℕ} (l : Lis
 -- a table that reads whole has at most 500 entries
 pub entries-fit : (t : List ℕ) (total room : ℕ) → readOutcome t ≡ done total → listingRoom ≤ room → lineRoom * total ≤ room
 entries-fit t total room e h = let w = read-table t total e in omega (arith, w .counted, within-high 1 mostEntries (countOf t) (w .count))
+
+-- after a failed read the book is refused as cut, whatever was read before
+pub failed-listing : (bytes : List ℕ) → listing (believed Failed bytes) ≡ refusedAtLine 13 0
+unfolding listing listingAfter readOutcome refusedIf
+failed-listing bytes = refl
 
 -- the listing, by the table's verdict: what was written for it
 module _ (t : List ℕ) (verdict : TableAnswer) (v : tableOutcome verdict ≡ readOutcome t) (old now : List ℕ) (n : ℕ) where

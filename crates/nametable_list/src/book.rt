@@ -2,6 +2,7 @@
 use basis::ErrorCode;
 use nametable::EntryAnswer;
 use nametable::TableAnswer;
+use streams::Ending;
 ghost use Prim.Native.Nat.{_*_, _≤_};
 ghost use mathlib.Core.Path.{_≡_};
 ghost use mathlib.Core.List.{_++_};
@@ -10,6 +11,7 @@ ghost use Rattle.basis.specs.Outcome.{done, numberOf};
 ghost use Rattle.nametable.specs.Answer.{readOutcome};
 ghost use Rattle.report.specs.Lines.{refusedAtLine};
 ghost use Rattle.report.specs.Answer.{lineRoom};
+ghost use Rattle.streams.specs.Reading.{believed};
 ghost use Rattle.nametable_list.specs.Listing.{entryLine, entryLines, listing, HasEntry, listingRoom};
 
 // Writes the line of a refusal, and answers its length.
@@ -64,7 +66,7 @@ fn put_entries(table: &[u8], total: usize, out: &mut [u8]) -> usize
 }
 
 // Writes what is printed for a table, and answers how many bytes that are.
-pub(crate) fn put_listing(table: &[u8], out: &mut [u8]) -> usize
+fn put_listing(table: &[u8], out: &mut [u8]) -> usize
     requires { ⌜ listingRoom ≤ length (now out) ⌝ }
     ensures { λ r. ⌜ r ≡ length (listing (now (table .entry))) ⌝ }
     ensures { λ _. ⌜ now (out .exit) ≡ listing (now (table .entry)) ++ drop (length (listing (now (table .entry)))) (now (out .entry)) ⌝ }
@@ -74,4 +76,14 @@ pub(crate) fn put_listing(table: &[u8], out: &mut [u8]) -> usize
         TableAnswer::Error { code, position } => put_refusal(code, position, out),
         TableAnswer::Entries(total) => put_entries(table, total, out),
     }
+}
+
+// Writes what is printed for what was read of a table, and answers how many bytes that are. If a read failed, that is what
+// is printed for an empty table, whatever was read before.
+pub(crate) fn put_believed(ending: Ending, bytes: &[u8], out: &mut [u8]) -> usize
+    requires { ⌜ listingRoom ≤ length (now out) ⌝ }
+    ensures { λ r. ⌜ r ≡ length (listing (believed ending (now (bytes .entry)))) ⌝ }
+    ensures { λ _. ⌜ now (out .exit) ≡ listing (believed ending (now (bytes .entry))) ++ drop (length (listing (believed ending (now (bytes .entry))))) (now (out .entry)) ⌝ }
+{
+    put_listing(streams::believed_bytes(ending, bytes), out)
 }

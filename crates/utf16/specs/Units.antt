@@ -1,18 +1,9 @@
--- UTF-16: surrogate pairs, points to units and back, and the unpaired surrogates of a row of units.
-use Prim.Native.Nat.{ℕ, suc, _+_, _-_, _*_, _/_, _%_}
-use mathlib.Core.Bool.{Bool, not, _||_}
+-- UTF-16: surrogate pairs, and points to units and back.
+use Prim.Native.Nat.{ℕ, _+_, _-_, _*_, _/_, _%_}
 use mathlib.Core.List.{List, [], _∷_}
 use lib.Dec.{ltb}
-use lib.ListN.{length, getD}
-use Rattle.basis.specs.Tests.{pick, both, within, firstBelow}
-
--- a high surrogate, the first unit of a pair
-unfoldable pub isHigh : ℕ → Bool
-isHigh u = within 0xd800 0xdbff u
-
--- a low surrogate, the second unit of a pair
-unfoldable pub isLow : ℕ → Bool
-isLow u = within 0xdc00 0xdfff u
+use Rattle.basis.specs.Tests.{pick}
+unfoldable pub use Rattle.utf16.specs.Surrogates.{isHigh, isLow, isUnpaired, unpairedAt, firstUnpaired}
 
 -- the pair of a point of 10000 hex or more: what is over 10000 hex, its upper ten bits in the high surrogate
 abbrev pub highOf : ℕ → ℕ
@@ -47,15 +38,3 @@ pointsAfter before (u ∷ us) = pointOf before u (pointsAfter u us)
 -- the points of a row of units
 unfoldable pub toPoints : List ℕ → List ℕ
 toPoints us = pointsAfter 0 us
-
--- the unit u is an unpaired surrogate: a high one with no low one after it, or a low one with no high one before it
-unfoldable pub isUnpaired : ℕ → ℕ → ℕ → Bool
-isUnpaired before u after = both (isHigh u) (not (isLow after)) || both (isLow u) (not (isHigh before))
-
--- the same of the unit at index i of a row that follows the unit before; past the row's end stands 0, no surrogate
-unfoldable pub unpairedAt : ℕ → List ℕ → ℕ → Bool
-unpairedAt before us i = isUnpaired (getD (before ∷ us) i 0) (getD us i 0) (getD us (suc i) 0)
-
--- the index of the first unpaired surrogate of a row, or the length
-unfoldable pub firstUnpaired : List ℕ → ℕ
-firstUnpaired us = firstBelow (length us) (unpairedAt 0 us)

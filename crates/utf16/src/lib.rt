@@ -46,21 +46,23 @@ pub fn to_units(points: &[u32], count: PointCount, units: &mut [u16]) -> UnitsAn
             position: 0,
         };
     }
-    if units.len() < 2 * n {
+    let row = &points[..n];
+    let bad = points::first_not_point(row);
+    let needed = 2 * n;
+    if units.len() < needed {
         return UnitsAnswer::Error {
             code: ErrorCode::Capacity,
             position: 0,
         };
     }
-    let row = &points[..n];
-    let bad = points::first_not_point(row);
     if bad < n {
         return UnitsAnswer::Error {
             code: ErrorCode::NotAPoint,
             position: bad,
         };
     }
-    UnitsAnswer::Units(UnitCount(units::put_units(row, units)))
+    let written = units::put_units(row, units);
+    UnitsAnswer::Units(UnitCount(written))
 }
 
 // Writes the points of the first `count` units.
@@ -75,19 +77,20 @@ pub fn to_points(units: &[u16], count: UnitCount, points: &mut [u32]) -> PointsA
             position: 0,
         };
     }
+    let row = &units[..n];
+    let unpaired = units::first_unpaired(row);
     if points.len() < n {
         return PointsAnswer::Error {
             code: ErrorCode::Capacity,
             position: 0,
         };
     }
-    let row = &units[..n];
-    let bad = units::first_unpaired(row);
-    if bad < n {
+    if unpaired < n {
         return PointsAnswer::Error {
             code: ErrorCode::UnpairedSurrogate,
-            position: bad,
+            position: unpaired,
         };
     }
-    PointsAnswer::Points(PointCount(units::put_points(row, points)))
+    let written = units::put_points(row, points);
+    PointsAnswer::Points(PointCount(written))
 }

@@ -79,8 +79,10 @@ fn put_bytes(units: &[u16], bytes: &mut [u8]) -> usize
     let mut i = 0;
     while i < units.len() {
         let unit = units[i];
-        bytes[at] = high_byte(unit);
-        bytes[at + 1] = low_byte(unit);
+        let high = high_byte(unit);
+        let low = low_byte(unit);
+        bytes[at] = high;
+        bytes[at + 1] = low;
         at += 2;
         i += 1;
     }
@@ -99,5 +101,6 @@ pub fn to_bytes(units: &[u16], count: UnitCount, bytes: &mut [u8]) -> BytesAnswe
     if bytes.len() < 2 * n {
         return basis::bytes_error(ErrorCode::Capacity, 0);
     }
-    BytesAnswer::Bytes(ByteCount(put_bytes(&units[..n], bytes)))
+    let written = put_bytes(&units[..n], bytes);
+    BytesAnswer::Bytes(ByteCount(written))
 }

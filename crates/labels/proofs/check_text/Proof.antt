@@ -2,37 +2,42 @@
 use mathlib.Core.Path.{sym, _∙_}
 use borrow.Author.Needs.{needs}
 use Rattle.basis.specs.Outcome.{numberOf}
-use Rattle.basis.proofs.Outcome.{stop-below, pass-below, stop-equal, pass-equal, stop-found, pass-found}
+use Rattle.basis.proofs.Outcome.{stop-found, pass-found}
 use Rattle.labels.specs.Tests.{textTests}
 use Rattle.labels.specs.Answer.{thenOutcome}
+use Rattle.labels.proofs.FirstTests.{check-stops, check-passes}
 use Rattle.labels.proofs.check_text.Statement.{statement}
 use Rattle.labels.proofs.check_text.Tie as tie
 
 returns : tie.Need-returns
-unfolding thenOutcome numberOf textTests
-returns c = λ next. sym (stop-below _ _ _ _ 63 (c .if1 .taken))
-
-returns-2 : tie.Need-returns-2
-unfolding thenOutcome numberOf textTests
-returns-2 c = λ next. sym (pass-below _ _ _ _ 63 (c .before .if1 .left) ∙ stop-equal _ _ _ _ 0 (c .if2 .taken))
+unfolding thenOutcome textTests
+returns c = λ next. sym (check-stops _ _ (c .before .before .before .check-sizes .ensures) _ _ _ (c .before .sizes .given .1))
 
 first-not-point-requires : tie.Need-first-not-point-requires
 first-not-point-requires c κs = search needs
 
-returns-3 : tie.Need-returns-3
+returns-2 : tie.Need-returns-2
 unfolding thenOutcome numberOf textTests
+returns-2 c =
+    let f = c .before in
+    let p = f .before in
+    λ next. sym (check-passes _ _ (p .before .before .check-sizes .ensures) _ (p .enum-told .given .1) ∙ stop-found 4 _ _ _ _ (f .first-not-point .ensures) (c .if1 .taken))
+
+returns-3 : tie.Need-returns-3
+unfolding thenOutcome textTests
 returns-3 c =
     let f = c .before in
-    let e = f .before in
-    λ next. sym (pass-below _ _ _ _ 63 (e .before .if1 .left) ∙ pass-equal _ _ _ _ 0 (e .if2 .left) ∙ stop-found _ _ _ _ _ (f .first-not-point .ensures) (c .if3 .taken))
-
-returns-4 : tie.Need-returns-4
-unfolding thenOutcome textTests
-returns-4 c =
-    let f = c .before in
-    let e = f .before in
-    λ next. sym (pass-below _ _ _ _ 63 (e .before .if1 .left) ∙ pass-equal _ _ _ _ 0 (e .if2 .left) ∙ pass-found _ _ _ _ _ (f .first-not-point .ensures) (c .if3 .left))
+    let p = f .before in
+    λ next. sym (check-passes _ _ (p .before .before .check-sizes .ensures) _ (p .enum-told .given .1) ∙ pass-found 4 _ _ _ _ (f .first-not-point .ensures) (c .if1 .left))
 
 pub check-text-spec : {M : Type 1} → statement M
 check-text-spec =
-    tie.close (tie.spec returns returns-2 first-not-point-requires returns-3 returns-4)
+    tie.close
+    (tie.spec
+    (λ c κs. search needs)
+    (λ c. search needs)
+    returns
+    (λ c. search needs)
+    first-not-point-requires
+    returns-2
+    returns-3)

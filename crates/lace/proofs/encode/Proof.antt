@@ -19,15 +19,6 @@ use Rattle.utf16.proofs.to_units.Reads as to-units-reads
 use Rattle.lace.proofs.octets.text_all_ldh.Reads as text-all-ldh-reads
 use Rattle.lace.proofs.encoding.encode_units.Reads as encode-units-reads
 
--- after the call of the converter
-converted : (u : lts.After-to-units (check-text-reads.Asked, check-text-reads.Learnt, bytes-error-reads.Asked, bytes-error-reads.Learnt, text-all-ldh-reads.Asked, text-all-ldh-reads.Learnt, to-units-reads.Asked, to-units-reads.Learnt, encode-units-reads.Asked, encode-units-reads.Learnt) reads.Pre reads.Post)
-    → Converted (u .before .before .before .before .before .before .before .before .before .before .args .text .now) (unitsOutcome (u .to-units .result)) (u .to-units .last .1 .1 .0)
-converted u =
-    let f = u .before .before in
-    let p = f .before .before .before in
-    let checked = text-checked _ (p .enum-told .given .1) _ _ (p .before .before .check-text .ensures) in
-    converts _ (checked .points) (f .if2 .left) _ _ (u .to-units .ensures .0) (omega arith) _ _ (u .to-units .ensures .1)
-
 check-text-requires : tie.Need-check-text-requires
 check-text-requires c κs = search needs
 
@@ -57,8 +48,8 @@ unfolding bytesOutcome numberOf encodeOutcome
 returns-2 c =
     let h = c .before .before in
     let p = h .before in
-    refusal-leaves (encodeOutcome isAllLdh _ _) _ _ _ _ _ (ap bytesOutcome (c .bytes-error2 .ensures))
-    (check-passes _ _ (p .before .before .check-text .ensures) _ (p .enum-told .given .1) ∙ stop-told _ _ _ _ _ (h .text-all-ldh .ensures) (c .before .if1 .taken))
+    refusal-leaves (encodeOutcome isAllLdh _ _) _ _ _ 6 0 (ap bytesOutcome (c .bytes-error2 .ensures))
+    (check-passes _ _ (p .before .before .check-text .ensures) _ (p .enum-told .given .1) ∙ stop-told 6 0 _ _ _ (h .text-all-ldh .ensures) (c .before .if1 .taken))
 
 bytes-error-requires-3 : tie.Need-bytes-error-requires-3
 bytes-error-requires-3 c κs = search needs
@@ -68,9 +59,18 @@ unfolding bytesOutcome numberOf encodeOutcome
 returns-3 c =
     let h = c .before .before .before in
     let p = h .before in
-    refusal-leaves (encodeOutcome isAllLdh _ _) _ _ _ _ _ (ap bytesOutcome (c .bytes-error3 .ensures))
-    (check-passes _ _ (p .before .before .check-text .ensures) _ (p .enum-told .given .1) ∙ pass-told _ _ _ _ _ (h .text-all-ldh .ensures) (c .before .before .if1 .left)
-    ∙ stop-below _ _ _ _ _ (text-long _ (c .before .if2 .taken)))
+    refusal-leaves (encodeOutcome isAllLdh _ _) _ _ _ 3 0 (ap bytesOutcome (c .bytes-error3 .ensures))
+    (check-passes _ _ (p .before .before .check-text .ensures) _ (p .enum-told .given .1) ∙ pass-told 6 0 _ _ _ (h .text-all-ldh .ensures) (c .before .before .if1 .left)
+    ∙ stop-below 3 0 _ 63 _ (text-long (p .before .before .before .before .before .args .text .now) (omega (arith, c .before .if2 .taken))))
+
+-- after the call of the converter
+converted : (u : lts.After-to-units (check-text-reads.Asked, check-text-reads.Learnt, bytes-error-reads.Asked, bytes-error-reads.Learnt, text-all-ldh-reads.Asked, text-all-ldh-reads.Learnt, to-units-reads.Asked, to-units-reads.Learnt, encode-units-reads.Asked, encode-units-reads.Learnt) reads.Pre reads.Post)
+    → Converted (u .before .before .before .before .before .before .before .before .before .before .args .text .now) (unitsOutcome (u .to-units .result)) (u .to-units .last .1 .1 .0)
+converted u =
+    let f = u .before .before in
+    let p = f .before .before .before in
+    let checked = text-checked _ (p .enum-told .given .1) _ _ (p .before .before .check-text .ensures) in
+    converts _ (checked .points) (f .if2 .left) _ _ (u .to-units .ensures .0) (omega arith) _ _ (u .to-units .ensures .1)
 
 slice-aggregate-to-units : tie.Need-slice-aggregate-to-units
 slice-aggregate-to-units c = search needs

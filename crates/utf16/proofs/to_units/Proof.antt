@@ -1,6 +1,8 @@
 -- `to_units` meets its contract.
+use Prim.Native.Nat.{_*_}
 use mathlib.Core.Path.{sym}
 use mathlib.Core.Logic.{inl, inr}
+use lib.ListN.{length}
 use lib.Seq.{length-take-le}
 use borrow.Author.Needs.{needs}
 use native.Mathlib.Omega.{arith}
@@ -13,32 +15,40 @@ use Rattle.utf16.proofs.to_units.Tie as tie
 
 returns : tie.Need-returns
 unfolding unitsOutcome toUnitsOutcome numberOf
-returns c = refused-leaves _ _ _ _ _ (capacity-refused _ _ _ _ _ _ _ (inl (c .if1 .taken)))
-
-mul-if2 : tie.Need-mul-if2
-mul-if2 c = search needs
-
-returns-2 : tie.Need-returns-2
-unfolding unitsOutcome toUnitsOutcome numberOf
-returns-2 c = refused-leaves _ _ _ _ _ (capacity-refused _ _ _ _ _ _ _ (inr (c .if2 .taken)))
+returns c =
+    let a = c .before .before .before .args in
+    refused-leaves _ _ _ 1 0 (capacity-refused (length (a .points .now)) (a .count .0) _ _ _ _ _ (inl (omega (arith, c .if1 .taken))))
 
 slice-aggregate-row : tie.Need-slice-aggregate-row
-slice-aggregate-row c = sym (length-take-le _ _ (c .before .before .if1 .left))
+slice-aggregate-row c = sym (length-take-le _ _ (c .before .if1 .left))
 
 first-not-point-requires : tie.Need-first-not-point-requires
 first-not-point-requires c κs = tt
 
+mul-needed : tie.Need-mul-needed
+mul-needed c = search needs
+
+returns-2 : tie.Need-returns-2
+unfolding unitsOutcome toUnitsOutcome numberOf
+returns-2 c =
+    let a = c .before .before .before .before .before .before .args in
+    refused-leaves _ _ _ 1 0 (capacity-refused _ (a .count .0) (2 * a .count .0) (length (a .units .now)) _ _ _ (inr (omega (arith, c .if2 .taken))))
+
 returns-3 : tie.Need-returns-3
 unfolding unitsOutcome toUnitsOutcome numberOf
 returns-3 c =
-    let r = c .before .before in
-    refused-leaves _ _ _ _ _ (element-refused _ _ _ _ _ _ _ (r .before .before .if1 .left) (r .before .if2 .left) _ (c .before .first-not-point .ensures) (c .if3 .taken))
+    let s = c .before .before in
+    let a = s .before .before .before .before .before .args in
+    refused-leaves _ _ _ 4 _
+    (element-refused (length (a .points .now)) (a .count .0) (2 * a .count .0) (length (a .units .now)) _ 4 _ (omega (arith, s .before .before .if1 .left)) (omega (arith, c .before .if2 .left)) _ (s .first-not-point .ensures) (c .if3 .taken))
 
 put-units-requires : tie.Need-put-units-requires
 put-units-requires c κs =
-    let h = c .before .before .before .before .before .if1 .left in (
-      rw length-take-le (omega arith),
-      text-judged _ _ _ h (c .before .before .first-not-point .ensures) (c .before .if3 .left),
+    let e = c .before in
+    let f = e .before .before in
+    let h = f .before .before .if1 .left in (
+      rw length-take-le (omega (arith, e .before .if2 .left)),
+      text-judged _ _ _ h (f .first-not-point .ensures) (omega (arith, e .if3 .left)),
     )
 
 same-length : tie.Need-same-length
@@ -47,20 +57,24 @@ same-length c = search needs
 returns-4 : tie.Need-returns-4
 unfolding unitsOutcome toUnitsOutcome
 returns-4 c =
-    let e = c .before .before .before .before in
-    let r = e .before .before in
-    let p = c .before .before .put-units .ensures in
-    done-leaves _ _ _ _ _ (all-done _ _ _ _ _ _ _ (r .before .before .if1 .left) (r .before .if2 .left) _ (e .before .first-not-point .ensures) (e .if3 .left) _ (p .0)) (rw (← p .0) at (p .1))
+    let p = c .before .before in
+    let e = p .before .before in
+    let s = e .before .before in
+    let a = s .before .before .before .before .before .args in
+    let q = p .put-units .ensures in
+    done-leaves _ _ _ _ (p .put-units .result)
+    (all-done (length (a .points .now)) (a .count .0) (2 * a .count .0) (length (a .units .now)) _ 4 _ (omega (arith, s .before .before .if1 .left)) (omega (arith, e .before .if2 .left)) _ (s .first-not-point .ensures) (e .if3 .left) _ (q .0))
+    (rw (← q .0) at (q .1))
 
 pub to-units-spec : {M : Type 1} → statement M
 to-units-spec =
     tie.close
     (tie.spec
     returns
-    mul-if2
-    returns-2
     slice-aggregate-row
     first-not-point-requires
+    mul-needed
+    returns-2
     returns-3
     put-units-requires
     same-length

@@ -28,11 +28,11 @@ shared-slice-read-unit c = search needs
 high-byte-requires : tie.Need-high-byte-requires Inv-loop μ-loop
 high-byte-requires c κs = search needs
 
-slice-write-bytes : tie.Need-slice-write-bytes Inv-loop μ-loop
-slice-write-bytes c = search needs
-
 low-byte-requires : tie.Need-low-byte-requires Inv-loop μ-loop
 low-byte-requires c κs = search needs
+
+slice-write-bytes : tie.Need-slice-write-bytes Inv-loop μ-loop
+slice-write-bytes c = search needs
 
 add-bytes : tie.Need-add-bytes Inv-loop μ-loop
 add-bytes c = search needs
@@ -70,8 +70,8 @@ put-bytes-spec =
     mul-unit
     shared-slice-read-unit
     high-byte-requires
-    slice-write-bytes
     low-byte-requires
+    slice-write-bytes
     add-bytes
     slice-write-bytes-2
     add-at

@@ -1,6 +1,7 @@
 -- `to_units` meets its contract.
 use borrow.Author.Needs.{needs}
 use native.Mathlib.Omega.{arith}
+use lib.ListN.{length}
 use Rattle.basis.specs.Outcome.{numberOf}
 use Rattle.basis.proofs.Outcome.{refused-leaves, done-leaves}
 use Rattle.utf16.specs.Answer.{unitsOutcome}
@@ -14,7 +15,9 @@ returns c = refused-leaves _ _ _ _ _ (no-room _ _ (c .if1 .taken))
 
 returns-2 : tie.Need-returns-2
 unfolding unitsOutcome numberOf
-returns-2 c = refused-leaves _ _ _ _ _ (odd-refused _ _ (c .before .if1 .left) (c .if2 .taken))
+returns-2 c =
+    let a = c .before .before .before .before .args in
+    refused-leaves _ _ _ 12 0 (odd-refused (a .bytes .now) (length (a .units .now)) (omega (arith, c .before .if1 .left)) (omega (arith, c .if2 .taken)))
 
 put-units-requires : tie.Need-put-units-requires
 put-units-requires c κs = search needs

@@ -1,4 +1,5 @@
 -- `decoding::advance` meets its contract, by the kind of the symbol: the last of a group, a hyphen, a foreign one, a leading one.
+use native.Mathlib.Omega.{arith}
 use borrow.Author.Needs.{needs}
 use Rattle.altdude.proofs.DecodeLaws.{stop-open, goes-hyphen, stop-foreign, stop-zero, stop-large, goes-leading}
 use Rattle.altdude.proofs.decoding.advance.Statement.{statement}
@@ -31,12 +32,14 @@ returns-5 c = stop-zero _ _ _ (c .before .before .before .if1 .left) (c .before 
 returns-6 : tie.Need-returns-6
 returns-6 c =
     let d = c .before .before .before in
-    stop-large _ _ _ (d .before .if1 .left) (d .if2 .left) (d .before .before .pre .0) (c .if6 .taken)
+    let a = d .before .before .args in
+    stop-large _ (a .pending) (a .symbol) (d .before .if1 .left) (d .if2 .left) (d .before .before .pre .0) (omega (arith, c .if6 .taken))
 
 returns-7 : tie.Need-returns-7
 returns-7 c =
     let d = c .before .before .before in
-    goes-leading _ _ _ (d .before .if1 .left) (d .if2 .left) (d .before .before .pre .0) (c .before .before .if4 .left) (c .before .if5 .left) (c .if6 .left)
+    let a = d .before .before .args in
+    goes-leading _ (a .pending) (a .symbol) (d .before .if1 .left) (d .if2 .left) (d .before .before .pre .0) (c .before .before .if4 .left) (c .before .if5 .left) (omega (arith, c .if6 .left))
 
 pub advance-spec : {M : Type 1} → statement M
 advance-spec =

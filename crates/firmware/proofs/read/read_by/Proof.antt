@@ -17,7 +17,9 @@ bytes-error-requires c κs = search needs
 
 returns : tie.Need-returns
 unfolding bytesOutcome numberOf readBy
-returns c = refusal-leaves _ _ _ _ _ _ (ap bytesOutcome (c .bytes-error .ensures)) (stop-below _ _ _ _ 252 (c .before .if1 .taken))
+returns c =
+    let a = c .before .before .before .before .args in
+    refusal-leaves _ _ _ _ 1 0 (ap bytesOutcome (c .bytes-error .ensures)) (stop-below 1 0 _ (length (a .text .now)) 252 (omega arith))
 
 slice-aggregate-decode : tie.Need-slice-aggregate-decode
 slice-aggregate-decode c = search needs
@@ -51,8 +53,9 @@ returns-2 : tie.Need-returns-2
 unfolding pointsOutcome bytesOutcome readBy inBytes
 returns-2 c =
     let d = c .before .before .before .before .before in
+    let a = d .before .before .before .before .before .args in
     refusal-leaves _ _ _ _ _ _ (ap bytesOutcome (c .bytes-error2 .ensures))
-    (pass-below _ _ _ _ 252 (d .before .before .if1 .left) ∙ ap (inBytes _) (sym (d .decode .ensures .0) ∙ ap pointsOutcome (c .before .before .answer .given .1)))
+    (pass-below 1 0 _ (length (a .text .now)) 252 (omega (arith, d .before .before .if1 .left)) ∙ ap (inBytes _) (sym (d .decode .ensures .0) ∙ ap pointsOutcome (c .before .before .answer .given .1)))
 
 same-length : tie.Need-same-length
 same-length c = search needs
@@ -65,8 +68,9 @@ returns-3 c =
     let d = e .before .before .before .before .before .before in
     let is = sym (d .decode .ensures .0) ∙ ap pointsOutcome (e .before .before .before .answer2 .given .1) in
     let text = values-are _ _ _ _ _ is (decoded-count _ _ _ _ is) (d .decode .ensures .1) in
+    let a = d .before .before .before .before .before .args in
     handed-leaves _ _ _ _ _ _ _
-    (pass-below _ _ _ _ 252 (d .before .before .if1 .left) ∙ ap (inBytes _) is ∙ ap (λ t. done (length (bytesOf t))) (sym text))
+    (pass-below 1 0 _ (length (a .text .now)) 252 (omega (arith, d .before .before .if1 .left)) ∙ ap (inBytes _) is ∙ ap (λ t. done (length (bytesOf t))) (sym text))
     (ap bytesOf (sym text)) p
 
 pub read-by-spec : {M : Type 1} → statement M

@@ -26,8 +26,8 @@ encode-requires c κs = search needs
 bytes-written-requires : tie.Need-bytes-written-requires
 bytes-written-requires c κs = search needs
 
-add-t11 : tie.Need-add-t11
-add-t11 c =
+add-count : tie.Need-add-count
+add-count c =
     let b = c .before .before .before in
     let p = b .before .before .before .before in
     let s = p .before .before .before .before in
@@ -56,6 +56,6 @@ put-label-spec =
     part-encode-end
     encode-requires
     bytes-written-requires
-    add-t11
+    add-count
     same-length
     returns)

@@ -26,7 +26,7 @@ same-length c = search needs
 returns : tie.Need-returns
 returns c =
     let r = c .before .before .before .before .before in
-    octets-runs _ _ (r .run-count .ensures .0) _ _ _ (λ k _. omega (arith, r .before .before .shared-slice-known .given k)) (c .before .before .before .before .if1 .taken)
+    octets-runs _ _ (r .run-count .ensures .0) _ _ _ (λ k _. omega (arith, r .before .before .shared-slice-known .given k)) (omega (arith, c .before .before .before .before .if1 .taken))
     (c .before .before .put-runs .ensures)
 
 put-all-requires : tie.Need-put-all-requires
@@ -39,7 +39,7 @@ returns-2 : tie.Need-returns-2
 returns-2 c =
     let r = c .before .before .before .before .before in
     let p = c .before .before .put-all .ensures in
-    octets-all _ _ (r .run-count .ensures .0) _ _ _ (c .before .before .before .before .if1 .left) (p .0) (p .1)
+    octets-all _ _ (r .run-count .ensures .0) _ _ _ (omega (arith, c .before .before .before .before .if1 .left)) (p .0) (p .1)
 
 pub put-octets-spec : {M : Type 1} → statement M
 put-octets-spec =

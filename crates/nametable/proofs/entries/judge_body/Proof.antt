@@ -1,24 +1,18 @@
 -- `entries::judge_body` meets its contract: each test answers in its turn, and the label last.
 use mathlib.Core.Path.{sym, _∙_}
 use native.Mathlib.Omega.{arith}
-use borrow.Author.Tests.{not-true, not-false}
+use borrow.Author.Tests.{not-false}
 use Rattle.basis.specs.Outcome.{numberOf}
 use Rattle.basis.proofs.Tests.{within-true, within-below, within-above}
 use Rattle.nametable.specs.Stepping.{judgedOutcome}
-use Rattle.nametable.proofs.EntryLaws.{filled-part, label-part, not-rising, not-sized, not-filled, by-label}
+use Rattle.nametable.proofs.EntryLaws.{filled-part, label-part, not-rising, not-sized, not-filled-judged, by-label}
 use borrow.Author.Needs.{needs}
 use Rattle.nametable.proofs.entries.judge_body.Statement.{statement}
 use Rattle.nametable.proofs.entries.judge_body.Tie as tie
 
-number-at-requires : tie.Need-number-at-requires
-number-at-requires c κs = search needs
-
 returns : tie.Need-returns
 unfolding judgedOutcome numberOf
 returns c = sym (not-rising _ _ _ (c .before .before .before .pre .1) _ (c .before .number-at .ensures .0) (c .if1 .taken))
-
-shared-slice-read-length : tie.Need-shared-slice-read-length
-shared-slice-read-length c = search needs
 
 cast-length : tie.Need-cast-length
 cast-length c = omega (arith, c .shared-slice-known2 .given 3)
@@ -35,43 +29,9 @@ returns-3 c =
     let n = c .before .before .before .before in
     sym (not-sized _ _ _ (n .before .before .pre .1) _ (n .number-at .ensures .0) (c .before .before .before .if1 .left) (within-above _ _ _ (c .if3 .taken)))
 
-add-end : tie.Need-add-end
-add-end c = search needs
-
-sub-is-zero : tie.Need-sub-is-zero
-sub-is-zero c = search needs
-
-part-is-zero-start : tie.Need-part-is-zero-start
-part-is-zero-start c = search needs
-
-part-is-zero-end : tie.Need-part-is-zero-end
-part-is-zero-end c = search needs
-
-is-zero-requires : tie.Need-is-zero-requires
-is-zero-requires c κs = search needs
-
 returns-4 : tie.Need-returns-4
 unfolding judgedOutcome numberOf
-returns-4 c =
-    let r = c .before .before .before .before .before .before in
-    let s = r .before .before .before in
-    let f = filled-part (s .args .entry .now) _ (s .pre .0) (omega arith) (c .before .is-zero .ensures) in
-    sym (not-filled _ _ _ (s .pre .1) _ (r .before .number-at .ensures .0) (r .if1 .left) (within-true _ _ _ (omega arith) (omega arith)) (f ∙ not-true _ (c .if4 .taken)))
-
-sub-judge-label : tie.Need-sub-judge-label
-sub-judge-label c = search needs
-
-part-judge-label-start : tie.Need-part-judge-label-start
-part-judge-label-start c = search needs
-
-part-judge-label-end : tie.Need-part-judge-label-end
-part-judge-label-end c = search needs
-
-cast-judge-label : tie.Need-cast-judge-label
-cast-judge-label c = search needs
-
-judge-label-requires : tie.Need-judge-label-requires
-judge-label-requires c κs = search needs
+returns-4 c = search (needs, not-filled-judged)
 
 returns-5 : tie.Need-returns-5
 returns-5 c =
@@ -86,21 +46,21 @@ pub judge-body-spec : {M : Type 1} → statement M
 judge-body-spec =
     tie.close
     (tie.spec
-    number-at-requires
+    (λ c κs. search needs)
     returns
-    shared-slice-read-length
+    (λ c. search needs)
     cast-length
     returns-2
     returns-3
-    add-end
-    sub-is-zero
-    part-is-zero-start
-    part-is-zero-end
-    is-zero-requires
+    (λ c. search needs)
+    (λ c. search needs)
+    (λ c. search needs)
+    (λ c. search needs)
+    (λ c κs. search needs)
     returns-4
-    sub-judge-label
-    part-judge-label-start
-    part-judge-label-end
-    cast-judge-label
-    judge-label-requires
+    (λ c. search needs)
+    (λ c. search needs)
+    (λ c. search needs)
+    (λ c. search needs)
+    (λ c κs. search needs)
     returns-5)

@@ -7,21 +7,8 @@ use Rattle.report.proofs.PointLaws.{point-length}
 use Rattle.report.proofs.points.put_point.Statement.{statement}
 use Rattle.report.proofs.points.put_point.Tie as tie
 
-slice-aggregate-put-bytes : tie.Need-slice-aggregate-put-bytes
-slice-aggregate-put-bytes c = search needs
-
 put-bytes-requires : tie.Need-put-bytes-requires
 put-bytes-requires c κs = omega (arith, point-length (c .before .before .before .args .point))
-
-put-digits-requires : tie.Need-put-digits-requires
-put-digits-requires c κs =
-    let p = c .before .before .before in
-    let e = p .put-bytes .ensures in
-    let a = p .before .before .before .before .args in
-    (omega arith, (omega arith, (omega arith, omega (arith, point-length (a .point), e .index, stored-long e))))
-
-same-length : tie.Need-same-length
-same-length c = search needs
 
 returns : tie.Need-returns
 unfolding pointBytes pointMark
@@ -30,4 +17,13 @@ returns c = let p = c .before .before in then (p .before .before .before .before
 pub put-point-spec : {M : Type 1} → statement M
 put-point-spec =
     tie.close
-    (tie.spec slice-aggregate-put-bytes put-bytes-requires put-digits-requires same-length returns)
+    (tie.spec
+    (λ c. search needs)
+    put-bytes-requires
+    (λ c κs.
+    let p = c .before .before .before in
+    let e = p .put-bytes .ensures in
+    let a = p .before .before .before .before .args in
+    (omega arith, (omega arith, (omega arith, omega (arith, point-length (a .point), e .index, stored-long e)))))
+    (λ c. search needs)
+    returns)

@@ -33,7 +33,8 @@ returns : tie.Need-returns Inv-loop μ-loop
 unfolding firstNotPoint
 returns c =
     let l = c .before .before .before .before in
-    sym (first-at _ _ _ (c .before .before .before .loop-test .taken) (ap not (sym (c .before .is-point .ensures)) ∙ c .if1 .taken) (l .loop .inv .1))
+    let ns = l .before .before .args .numbers .now in
+    sym (first-at (length ns) _ _ (omega (arith, c .before .before .before .loop-test .taken)) (ap not (sym (c .before .is-point .ensures)) ∙ c .if1 .taken) (l .loop .inv .1))
 
 add-i : tie.Need-add-i Inv-loop μ-loop
 add-i c = search needs
@@ -46,7 +47,10 @@ loop-again c = (omega arith, below-more _ _ (c .before .before .before .before .
 
 returns-2 : tie.Need-returns-2 Inv-loop μ-loop
 unfolding firstNotPoint
-returns-2 c = sym (first-stop _ _ _ (c .loop-test .left) (c .before .loop .inv .0) (c .before .loop .inv .1))
+returns-2 c =
+    let l = c .before in
+    let ns = l .before .before .args .numbers .now in
+    sym (first-stop (length ns) _ _ (omega (arith, c .loop-test .left)) (l .loop .inv .0) (l .loop .inv .1))
 
 pub first-not-point-spec : {M : Type 1} → statement M
 first-not-point-spec =

@@ -1,0 +1,3 @@
+-- Laws on what calls come to and on what they move.
+pub mod CallLaws
+pub mod Counting
