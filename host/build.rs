@@ -1,4 +1,5 @@
-//! With the feature `proved`: links the proved library's archive, libfirmware.a.
+//! With the feature `proved`: links the proved library's two archives. Only the
+//! exported functions are global symbols of either, so the two do not clash.
 
 use std::path::Path;
 
@@ -8,7 +9,10 @@ fn main() {
         return;
     }
     let folder = Path::new(env!("CARGO_MANIFEST_DIR")).join("../target/staticlib");
-    println!("cargo:rerun-if-changed={}", folder.join("libfirmware.a").display());
     println!("cargo:rustc-link-search=native={}", folder.display());
-    println!("cargo:rustc-link-lib=static=firmware");
+    for archive in ["firmware", "test_exports"] {
+        let file = folder.join(format!("lib{archive}.a"));
+        println!("cargo:rerun-if-changed={}", file.display());
+        println!("cargo:rustc-link-lib=static={archive}");
+    }
 }

@@ -1,7 +1,7 @@
-//! AltDUDE (source document 003): the spelling, writing and reading.
+//! AltDUDE (source document 003): encoding a text, and decoding a label.
 
-use crate::point::{first_no_point, is_point, value_in, HYPHEN, LABEL_MAX};
-use crate::refusal::{refuse, refuse_at, Cause, Refusal};
+use crate::error::{error, error_at, Error, ErrorCode};
+use crate::point::{first_not_point, is_point, value_in, HYPHEN, LABEL_MAX};
 
 /// The characters for 0 to 31.
 pub const CHARACTERS: &[u8; 32] = b"abcdefghijkmnpqrstuvwxyz23456789";
@@ -9,49 +9,49 @@ pub const CHARACTERS: &[u8; 32] = b"abcdefghijkmnpqrstuvwxyz23456789";
 /// The remembered number at the start.
 pub const START: u32 = 96;
 
-/// Writes a text as a label. Order: 1, 2, 4, 5, 3.
-pub fn encode(text: &[u32], out: &mut [u8]) -> Result<usize, Refusal> {
+/// Encodes a text as a label. Order: 1, 2, 4, 5, 3.
+pub fn encode(text: &[u32], out: &mut [u8]) -> Result<usize, Error> {
     if out.len() < LABEL_MAX {
-        return refuse(Cause::Room);
+        return error(ErrorCode::Capacity);
     }
     if text.is_empty() {
-        return refuse(Cause::Empty);
+        return error(ErrorCode::Empty);
     }
-    if let Some(place) = first_no_point(text) {
-        return refuse_at(Cause::NoPoint, place);
+    if let Some(position) = first_not_point(text) {
+        return error_at(ErrorCode::NotAPoint, position);
     }
     if text.first() == Some(&HYPHEN) || text.last() == Some(&HYPHEN) {
-        return refuse(Cause::EdgeHyphen);
+        return error(ErrorCode::EdgeHyphen);
     }
-    let label = spelling(text);
+    let label = encoding(text);
     if label.len() > LABEL_MAX {
-        return refuse(Cause::TooLong);
+        return error(ErrorCode::TooLong);
     }
     out[..label.len()].copy_from_slice(&label);
     Ok(label.len())
 }
 
-/// Reads a label as a text. Order: 1, 2, 3, 7, 5, 9.
-pub fn decode(label: &[u8], out: &mut [u32]) -> Result<usize, Refusal> {
+/// Decodes a label to a text. Order: 1, 2, 3, 7, 5, 9.
+pub fn decode(label: &[u8], out: &mut [u32]) -> Result<usize, Error> {
     if out.len() < LABEL_MAX {
-        return refuse(Cause::Room);
+        return error(ErrorCode::Capacity);
     }
     if label.is_empty() {
-        return refuse(Cause::Empty);
+        return error(ErrorCode::Empty);
     }
     if label.len() > LABEL_MAX {
-        return refuse(Cause::TooLong);
+        return error(ErrorCode::TooLong);
     }
     let characters = match characters_of(label) {
         Ok(characters) => characters,
-        Err(place) => return refuse_at(Cause::ForeignByte, place),
+        Err(position) => return error_at(ErrorCode::OutsideAlphabet, position),
     };
     if label.first() == Some(&b'-') || label.last() == Some(&b'-') {
-        return refuse(Cause::EdgeHyphen);
+        return error(ErrorCode::EdgeHyphen);
     }
     let text = items_of(&characters).and_then(|items| text_of(&items));
     match text {
-        None => refuse(Cause::BadForm),
+        None => error(ErrorCode::NotWellFormed),
         Some(text) => {
             out[..text.len()].copy_from_slice(&text);
             Ok(text.len())
@@ -59,8 +59,8 @@ pub fn decode(label: &[u8], out: &mut [u32]) -> Result<usize, Refusal> {
     }
 }
 
-/// The spelling of a text of any length.
-pub fn spelling(text: &[u32]) -> Vec<u8> {
+/// The label of a text, of whatever length.
+pub fn encoding(text: &[u32]) -> Vec<u8> {
     let mut label = Vec::new();
     let mut remembered = START;
     for &point in text {
@@ -74,7 +74,7 @@ pub fn spelling(text: &[u32]) -> Vec<u8> {
     label
 }
 
-/// The group of characters that spells a number.
+/// The group of characters that stands for a number.
 pub fn group_for(number: u32) -> Vec<u8> {
     let mut digits = vec![(number % 16) as usize];
     let mut left = number / 16;
@@ -83,9 +83,9 @@ pub fn group_for(number: u32) -> Vec<u8> {
         left /= 16;
     }
     // The digits are in rising order: index 0 holds the last one.
-    let character = |place: usize| match place {
+    let character = |index: usize| match index {
         0 => CHARACTERS[digits[0]],
-        _ => CHARACTERS[16 + digits[place]],
+        _ => CHARACTERS[16 + digits[index]],
     };
     (0..digits.len()).rev().map(character).collect()
 }
@@ -97,7 +97,7 @@ enum Character {
     Quintet(u8),
 }
 
-/// The characters of a label, or the index of the first foreign byte.
+/// The characters of a label, or the index of the first byte that is none.
 fn characters_of(label: &[u8]) -> Result<Vec<Character>, usize> {
     let mut characters = Vec::new();
     for (index, &byte) in label.iter().enumerate() {

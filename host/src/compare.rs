@@ -1,198 +1,235 @@
-//! The same calls on two faces, with every byte of the memory around compared.
+//! The same calls of two implementations, with every element of the memory
+//! around compared.
 
-use crate::calls::{generated, known, Call, Function};
-use crate::face::{self, REFUSED};
-use crate::gen::Source;
+use crate::functions::{store, Function, Implementation, Numbers};
+use crate::generate::calls::{self, Call};
+use crate::generate::Source;
 use std::collections::BTreeMap;
 use std::fmt;
 use std::hint::black_box;
 
-/// How many bytes are watched on each side of a row.
+/// How many elements are watched on each side of a row.
 const GUARD: usize = 16;
 
-/// The refusals that writing can give.
-const WRITE_REFUSALS: [u32; 8] = [1, 2, 3, 5, 6, 10, 11, 12];
-
-/// The refusals that reading can give.
-const READ_REFUSALS: [u32; 9] = [1, 2, 3, 5, 6, 7, 8, 9, 11];
-
-/// A function of a face: scheme number, bytes given, buffer lent; one number.
-type Entry = fn(u32, &[u8], &mut [u8]) -> u32;
-
-/// The two functions of an implementation, and what it is called.
-#[derive(Clone, Copy)]
-pub struct Face {
-    pub name: &'static str,
-    pub write: Entry,
-    pub read: Entry,
+/// What a row is made of.
+trait Element: Copy + PartialEq + fmt::UpperHex {
+    /// The element that holds the lowest bits of a number.
+    fn of(number: u64) -> Self;
 }
 
-/// The independent implementation.
-pub const INDEPENDENT: Face = Face { name: "independent", write: face::write, read: face::read };
-
-/// A row of bytes with a guard on each side.
-#[derive(Clone, PartialEq, Eq)]
-struct Guarded {
-    bytes: Vec<u8>,
-}
-
-impl Guarded {
-    /// A row of so many bytes; row and guards are filled by the generator.
-    fn filled(source: &mut Source, length: usize) -> Guarded {
-        let mut bytes = vec![0; GUARD + length + GUARD];
-        for part in bytes.chunks_mut(8) {
-            part.copy_from_slice(&source.number().to_le_bytes()[..part.len()]);
-        }
-        Guarded { bytes }
-    }
-
-    /// A row that holds these bytes; the guards are filled by the generator.
-    fn holding(source: &mut Source, row: &[u8]) -> Guarded {
-        let mut guarded = Guarded::filled(source, row.len());
-        guarded.row_mut().copy_from_slice(row);
-        guarded
-    }
-
-    fn row(&self) -> &[u8] {
-        &self.bytes[GUARD..self.bytes.len() - GUARD]
-    }
-
-    fn row_mut(&mut self) -> &mut [u8] {
-        let end = self.bytes.len() - GUARD;
-        &mut self.bytes[GUARD..end]
+impl Element for u8 {
+    fn of(number: u64) -> u8 {
+        number as u8
     }
 }
 
-impl fmt::Display for Guarded {
+impl Element for u16 {
+    fn of(number: u64) -> u16 {
+        number as u16
+    }
+}
+
+impl Element for u32 {
+    fn of(number: u64) -> u32 {
+        number as u32
+    }
+}
+
+impl Element for u64 {
+    fn of(number: u64) -> u64 {
+        number
+    }
+}
+
+/// A row with a guard on each side.
+#[derive(Clone, PartialEq)]
+struct Guarded<T> {
+    elements: Vec<T>,
+}
+
+impl<T: Element> Guarded<T> {
+    /// A row of so many elements; row and guards are filled by the generator.
+    fn filled(source: &mut Source, length: usize) -> Guarded<T> {
+        let elements = (0..GUARD + length + GUARD).map(|_| T::of(source.number())).collect();
+        Guarded { elements }
+    }
+
+    /// A row that holds these elements; the guards are filled by the generator.
+    fn holding(source: &mut Source, row: &[T]) -> Guarded<T> {
+        let mut elements = Guarded::filled(source, 0).elements;
+        elements.splice(GUARD..GUARD, row.iter().copied());
+        Guarded { elements }
+    }
+
+    fn row(&self) -> &[T] {
+        &self.elements[GUARD..self.elements.len() - GUARD]
+    }
+
+    fn row_mut(&mut self) -> &mut [T] {
+        let end = self.elements.len() - GUARD;
+        &mut self.elements[GUARD..end]
+    }
+}
+
+impl<T: Element> fmt::Display for Guarded<T> {
     fn fmt(&self, out: &mut fmt::Formatter) -> fmt::Result {
-        self.bytes.iter().try_for_each(|byte| write!(out, "{byte:02X}"))
+        let digits = 2 * size_of::<T>();
+        self.elements.iter().try_for_each(|element| write!(out, " {element:0digits$X}"))
     }
 }
 
-/// The memory of a call: the row given and the buffer lent.
-#[derive(Clone, PartialEq, Eq)]
-struct Memory {
-    given: Guarded,
-    lent: Guarded,
+/// The memory of a call: the row given, the buffer, the answer row.
+#[derive(Clone, PartialEq)]
+struct Memory<G, B> {
+    given: Guarded<G>,
+    buffer: Guarded<B>,
+    answer: Guarded<u64>,
 }
 
-impl Memory {
+impl<G: Element, B: Element> Memory<G, B> {
     /// The memory before a call.
-    fn before(source: &mut Source, call: &Call) -> Memory {
-        let given = Guarded::holding(source, &call.given);
-        Memory { given, lent: Guarded::filled(source, call.room) }
+    fn before(source: &mut Source, call: &Call<G>) -> Memory<G, B> {
+        Memory {
+            given: Guarded::holding(source, &call.given),
+            buffer: Guarded::filled(source, call.capacity),
+            answer: Guarded::filled(source, call.answer),
+        }
     }
 
-    /// Makes the call on a face and answers its number.
-    fn call(&mut self, face: &Face, call: &Call) -> u32 {
-        let entry = match call.function {
-            Function::Write => face.write,
-            Function::Read => face.read,
-        };
-        entry(call.scheme, self.given.row(), self.lent.row_mut())
+    /// Makes a call.
+    fn call(&mut self, function: Function<G, B>, number: usize) {
+        function(self.given.row(), number, self.buffer.row_mut(), self.answer.row_mut());
     }
 
-    /// The memory in hexadecimal, under a heading.
-    fn shown(&self, heading: &str) -> String {
-        format!("  {heading}\n    given {}\n    lent  {}", self.given, self.lent)
-    }
-}
-
-/// How many bytes an answer says were written.
-fn written(answer: u32) -> usize {
-    if answer < REFUSED {
-        answer as usize
-    } else {
-        0
+    /// Makes a call with a row of its own for the five numbers, and stores them in
+    /// the answer row if that is long enough.
+    fn call_and_store(&mut self, function: Function<G, B>, number: usize) -> Numbers {
+        let mut numbers = [0; 5];
+        function(self.given.row(), number, self.buffer.row_mut(), &mut numbers);
+        store(numbers, self.answer.row_mut());
+        numbers
     }
 }
 
-/// Makes a call on both faces. Answers the number and what the buffer holds, or
-/// says how the two differ or what they changed and must not.
-fn compared(source: &mut Source, call: &Call, faces: &[Face; 2]) -> Result<(u32, Vec<u8>), String> {
-    let before = Memory::before(source, call);
-    let [mut one, mut other] = [before.clone(), before.clone()];
-    let numbers = [one.call(&faces[0], call), other.call(&faces[1], call)];
-    // The memory is looked at as it is, whatever a row that was only given lets one infer.
-    let [one, other] = black_box([one, other]);
-    let mut must = before.clone();
-    let count = written(numbers[0]);
-    must.lent.row_mut()[..count].copy_from_slice(&one.lent.row()[..count]);
-    if numbers[0] == numbers[1] && one == must && other == must {
-        return Ok((numbers[0], one.lent.row().to_vec()));
+impl<G: Element, B: Element> fmt::Display for Memory<G, B> {
+    fn fmt(&self, out: &mut fmt::Formatter) -> fmt::Result {
+        write!(out, "\n    given {}\n    buffer{}", self.given, self.buffer)?;
+        write!(out, "\n    answer{}", self.answer)
     }
-    let answer = |face: &Face, number: u32| format!("{} answers {number}", face.name);
-    Err([
-        format!("{call}"),
-        before.shown(&format!("before the call, with {GUARD} bytes on each side")),
-        one.shown(&answer(&faces[0], numbers[0])),
-        other.shown(&answer(&faces[1], numbers[1])),
-    ]
-    .join("\n"))
 }
 
-/// How often a function answered, and how often it refused by each number.
+/// A function under its name in two implementations, the calls that are made of
+/// it, and the codes that it can answer with.
+struct Pair<G, B> {
+    name: &'static str,
+    codes: &'static [u64],
+    call: fn(&mut Source) -> Call<G>,
+    implementations: [&'static str; 2],
+    functions: [Function<G, B>; 2],
+}
+
+impl<G: Element, B: Element> Pair<G, B> {
+    /// Makes a call of both functions. Answers the five numbers, or says how the
+    /// two differ or what they changed and must not.
+    fn compared(&self, source: &mut Source) -> Result<Numbers, String> {
+        let call = (self.call)(source);
+        let before = Memory::before(source, &call);
+        let [mut one, mut other] = [before.clone(), before.clone()];
+        let numbers = one.call_and_store(self.functions[0], call.number);
+        other.call(self.functions[1], call.number);
+        // The memory is looked at as it is, whatever a row that was only given lets one infer.
+        let [one, other] = black_box([one, other]);
+        let mut must = Memory { answer: one.answer.clone(), ..before.clone() };
+        let written = call.capacity.min(numbers[2] as usize);
+        must.buffer.row_mut()[..written].copy_from_slice(&one.buffer.row()[..written]);
+        if one == must && other == must {
+            return Ok(numbers);
+        }
+        let [one_name, other_name] = self.implementations;
+        let number = call.number;
+        Err(format!(
+            "number {number}, {GUARD} elements on each side of a row\n  before{before}\n  \
+             {one_name}: {numbers:?}{one}\n  {other_name}{other}"
+        ))
+    }
+
+    /// Makes so many calls. Answers one line, or says where the two differ, or
+    /// that they did not answer with each of the codes, or with another.
+    fn compare(&self, count: usize, seed: u64) -> Result<String, String> {
+        let name = self.name;
+        let mut source = Source::new(seed);
+        let mut tally = Tally::default();
+        for index in 0..count {
+            let numbers = self.compared(&mut source);
+            tally.count(numbers.map_err(|how| format!("{name}: case {index} differs: {how}"))?);
+        }
+        let line = format!("{name}: {count} cases agree: {tally}");
+        if tally.met_all(self.codes) {
+            Ok(line)
+        } else {
+            Err(format!("{line}; the codes must be {:?}", self.codes))
+        }
+    }
+}
+
+/// How often a function was done, and how often it answered with each code.
 #[derive(Default)]
 struct Tally {
-    answered: usize,
-    refused: BTreeMap<u32, usize>,
+    done: usize,
+    codes: BTreeMap<u64, usize>,
 }
 
 impl Tally {
-    fn count(&mut self, answer: u32) {
-        if answer < REFUSED {
-            self.answered += 1;
-        } else {
-            *self.refused.entry(answer - REFUSED).or_default() += 1;
+    fn count(&mut self, numbers: Numbers) {
+        match numbers[0] {
+            0 => self.done += 1,
+            code => *self.codes.entry(code).or_default() += 1,
         }
     }
 
-    /// Whether it answered, and met these refusals and no others.
-    fn met_all(&self, refusals: &[u32]) -> bool {
-        self.answered > 0 && self.refused.keys().eq(refusals)
+    /// Whether it was done at times, and answered with these codes and no others.
+    fn met_all(&self, codes: &[u64]) -> bool {
+        self.done > 0 && self.codes.keys().eq(codes)
     }
 }
 
 impl fmt::Display for Tally {
     fn fmt(&self, out: &mut fmt::Formatter) -> fmt::Result {
-        write!(out, "{} answered, refused", self.answered)?;
-        self.refused.iter().try_for_each(|(refusal, times)| write!(out, " {refusal}: {times}"))
+        write!(out, "{} done, refused", self.done)?;
+        self.codes.iter().try_for_each(|(code, times)| write!(out, " {code}: {times}"))
     }
 }
 
-/// Makes the fixed calls. Both faces must answer as the papers say.
-fn compare_known(source: &mut Source, faces: &[Face; 2]) -> Result<usize, String> {
-    let calls = known();
-    for (index, one) in calls.iter().enumerate() {
-        let differs = |how| format!("fixed call {index} differs: {how}");
-        let (number, buffer) = compared(source, &one.call, faces).map_err(differs)?;
-        if !one.answer.is(number, &buffer) {
-            return Err(differs(format!("{}: {number}, and not {:?}", one.call, one.answer)));
-        }
-    }
-    Ok(calls.len())
+/// Compares a function of two implementations on so many calls from a seed.
+/// Answers a line; or says where the two differ, or which codes were not met.
+pub type Comparison = fn(usize, u64, &[Implementation; 2]) -> Result<String, String>;
+
+macro_rules! comparison {
+    ($name:ident, $call:ident, $codes:expr) => {
+        (stringify!($name), |count, seed, two| {
+            let pair = Pair {
+                name: stringify!($name),
+                codes: &$codes,
+                call: calls::$call,
+                implementations: two.map(|one| one.name),
+                functions: two.map(|one| one.$name),
+            };
+            pair.compare(count, seed)
+        })
+    };
 }
 
-/// Compares two faces on the fixed calls and on so many generated ones. Answers
-/// one line; or says where they differ, or that some refusal was not met.
-pub fn compare(count: usize, seed: u64, faces: &[Face; 2]) -> Result<String, String> {
-    let mut source = Source::new(seed);
-    let fixed = compare_known(&mut source, faces)?;
-    let (mut write, mut read) = (Tally::default(), Tally::default());
-    for index in 0..count {
-        let call = generated(&mut source);
-        let differs = |how| format!("generated call {index} differs: {how}");
-        let (number, _) = compared(&mut source, &call, faces).map_err(differs)?;
-        match call.function {
-            Function::Write => write.count(number),
-            Function::Read => read.count(number),
-        }
-    }
-    let line =
-        format!("{count} generated and {fixed} fixed calls agree; write: {write}; read: {read}");
-    if write.met_all(&WRITE_REFUSALS) && read.met_all(&READ_REFUSALS) {
-        Ok(line)
-    } else {
-        Err(format!("{line}; write must meet {WRITE_REFUSALS:?}, read {READ_REFUSALS:?}"))
-    }
-}
+/// The functions that are compared, each with the calls that are made of it and
+/// with all the codes that it can answer with.
+pub const COMPARISONS: [(&str, Comparison); 10] = [
+    comparison!(to_units, to_units, [1, 4]),
+    comparison!(to_points, to_points, [1, 10]),
+    comparison!(altdude_encode, encode, [1, 2, 3, 4, 5]),
+    comparison!(altdude_decode, altdude_decode, [1, 2, 3, 5, 7, 9]),
+    comparison!(lace_encode, encode, [1, 2, 3, 4, 6]),
+    comparison!(lace_decode, lace_decode, [1, 2, 3, 6, 7, 8, 9]),
+    comparison!(table_read, table_read, [5, 6, 7, 8, 9, 13, 14]),
+    comparison!(table_entry, table_entry, [1, 5, 6, 7, 8, 9, 13, 14]),
+    comparison!(write, write, [1, 2, 3, 5, 6, 10, 11, 12]),
+    comparison!(read, read, [1, 2, 3, 5, 6, 7, 8, 9, 11]),
+];

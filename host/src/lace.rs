@@ -1,96 +1,96 @@
-//! LACE (source document 004): units, stretches, octets, Base32.
+//! LACE (source document 004): units, runs, octets, Base32.
 
-use crate::point::{first_no_point, fold, is_ldh, value_in, LABEL_MAX};
-use crate::refusal::{refuse, refuse_at, Cause, Refusal};
+use crate::error::{error, error_at, Error, ErrorCode};
+use crate::point::{first_not_point, fold, is_ldh, value_in, LABEL_MAX};
 use crate::utf16::{points_of, units_of};
 
 /// The Base32 characters for 0 to 31.
 pub const CHARACTERS: &[u8; 32] = b"abcdefghijklmnopqrstuvwxyz234567";
 
-/// The mark that every label begins with.
-pub const MARK: &[u8; 4] = b"lq--";
+/// The prefix that every label begins with.
+pub const PREFIX: &[u8; 4] = b"lq--";
 
 /// The octet before units that are written in full.
 const FULL: u8 = 0xFF;
 
-/// Writes a text as a label. Order: 1, 2, 4, 6, 3.
-pub fn encode(text: &[u32], out: &mut [u8]) -> Result<usize, Refusal> {
+/// Encodes a text as a label. Order: 1, 2, 4, 6, 3.
+pub fn encode(text: &[u32], out: &mut [u8]) -> Result<usize, Error> {
     if out.len() < LABEL_MAX {
-        return refuse(Cause::Room);
+        return error(ErrorCode::Capacity);
     }
     if text.is_empty() {
-        return refuse(Cause::Empty);
+        return error(ErrorCode::Empty);
     }
-    if let Some(place) = first_no_point(text) {
-        return refuse_at(Cause::NoPoint, place);
+    if let Some(position) = first_not_point(text) {
+        return error_at(ErrorCode::NotAPoint, position);
     }
     if text.iter().all(|&point| is_ldh(point)) {
-        return refuse(Cause::AllLdh);
+        return error(ErrorCode::AllLdh);
     }
     let units = match units_of(text) {
         Ok(units) => units,
-        Err(place) => return refuse_at(Cause::NoPoint, place),
+        Err(position) => return error_at(ErrorCode::NotAPoint, position),
     };
     let octets = match octets_of(&units) {
         Some(octets) => octets,
-        None => return refuse(Cause::TooLong),
+        None => return error(ErrorCode::TooLong),
     };
     let base32 = base32_of(&octets);
-    let count = MARK.len() + base32.len();
-    out[..MARK.len()].copy_from_slice(MARK);
-    out[MARK.len()..count].copy_from_slice(&base32);
+    let count = PREFIX.len() + base32.len();
+    out[..PREFIX.len()].copy_from_slice(PREFIX);
+    out[PREFIX.len()..count].copy_from_slice(&base32);
     Ok(count)
 }
 
-/// Reads a label as a text. Order: 1, 2, 3, 8, 7, 9, 6.
-pub fn decode(label: &[u8], out: &mut [u32]) -> Result<usize, Refusal> {
+/// Decodes a label to a text. Order: 1, 2, 3, 8, 7, 9, 6.
+pub fn decode(label: &[u8], out: &mut [u32]) -> Result<usize, Error> {
     if out.len() < LABEL_MAX {
-        return refuse(Cause::Room);
+        return error(ErrorCode::Capacity);
     }
     if label.is_empty() {
-        return refuse(Cause::Empty);
+        return error(ErrorCode::Empty);
     }
     if label.len() > LABEL_MAX {
-        return refuse(Cause::TooLong);
+        return error(ErrorCode::TooLong);
     }
-    if !begins_with_mark(label) {
-        return refuse(Cause::NoMark);
+    if !has_prefix(label) {
+        return error(ErrorCode::NoPrefix);
     }
-    let quintets = match quintets_of(&label[MARK.len()..]) {
+    let quintets = match quintets_of(&label[PREFIX.len()..]) {
         Ok(quintets) => quintets,
-        Err(place) => return refuse_at(Cause::ForeignByte, MARK.len() + place),
+        Err(position) => return error_at(ErrorCode::OutsideAlphabet, PREFIX.len() + position),
     };
     let text = match text_from(&quintets) {
         Some(text) => text,
-        None => return refuse(Cause::BadForm),
+        None => return error(ErrorCode::NotWellFormed),
     };
     if text.iter().all(|&point| is_ldh(point)) {
-        return refuse(Cause::AllLdh);
+        return error(ErrorCode::AllLdh);
     }
     out[..text.len()].copy_from_slice(&text);
     Ok(text.len())
 }
 
-/// The longest stretches of units with equal high octet.
-pub fn stretches(units: &[u16]) -> Vec<&[u16]> {
+/// The longest runs of units with equal high octet.
+pub fn runs(units: &[u16]) -> Vec<&[u16]> {
     units.chunk_by(|one, next| one >> 8 == next >> 8).collect()
 }
 
-/// How many bytes the label of so many octets has, mark included.
+/// How many bytes the label of so many octets has, prefix included.
 fn label_length(octets: usize) -> usize {
-    MARK.len() + (8 * octets).div_ceil(5)
+    PREFIX.len() + (8 * octets).div_ceil(5)
 }
 
 /// The octets of a row of units, if their label has at most 63 bytes.
 pub fn octets_of(units: &[u16]) -> Option<Vec<u8>> {
-    let stretches = stretches(units);
-    let in_stretches = 2 * stretches.len() + units.len();
+    let runs = runs(units);
+    let in_runs = 2 * runs.len() + units.len();
     let in_full = 1 + 2 * units.len();
-    if in_stretches <= 2 * units.len() {
-        if label_length(in_stretches) > LABEL_MAX {
+    if in_runs <= 2 * units.len() {
+        if label_length(in_runs) > LABEL_MAX {
             return None;
         }
-        Some(stretches.iter().flat_map(|stretch| stretch_octets(stretch)).collect())
+        Some(runs.iter().flat_map(|run| run_octets(run)).collect())
     } else {
         if label_length(in_full) > LABEL_MAX {
             return None;
@@ -99,10 +99,10 @@ pub fn octets_of(units: &[u16]) -> Option<Vec<u8>> {
     }
 }
 
-/// A stretch as octets: its count, its high octet, its low octets.
-pub fn stretch_octets(stretch: &[u16]) -> Vec<u8> {
-    let mut octets = vec![stretch.len() as u8, (stretch[0] >> 8) as u8];
-    octets.extend(stretch.iter().map(|unit| (unit & 0xFF) as u8));
+/// A run as octets: its count, its high octet, its low octets.
+pub fn run_octets(run: &[u16]) -> Vec<u8> {
+    let mut octets = vec![run.len() as u8, (run[0] >> 8) as u8];
+    octets.extend(run.iter().map(|unit| (unit & 0xFF) as u8));
     octets
 }
 
@@ -125,7 +125,7 @@ pub fn base32_of(octets: &[u8]) -> Vec<u8> {
 
 /// The lowest `width` bits of a number, highest first.
 fn bits_of(number: u8, width: u32) -> Vec<bool> {
-    (0..width).rev().map(|place| (number >> place) & 1 == 1).collect()
+    (0..width).rev().map(|shift| (number >> shift) & 1 == 1).collect()
 }
 
 /// The number of at most eight bits, highest first.
@@ -133,12 +133,12 @@ fn number_of(bits: &[bool]) -> u8 {
     bits.iter().fold(0, |number, &bit| number * 2 + u8::from(bit))
 }
 
-/// Whether the first four bytes are the mark, case ignored.
-fn begins_with_mark(label: &[u8]) -> bool {
-    label.len() >= MARK.len() && MARK.iter().zip(label).all(|(&mark, &byte)| fold(byte) == mark)
+/// Whether the first four bytes are the prefix, case ignored.
+fn has_prefix(label: &[u8]) -> bool {
+    label.len() >= PREFIX.len() && PREFIX.iter().zip(label).all(|(&one, &byte)| fold(byte) == one)
 }
 
-/// The values of Base32 characters, or the index of the first foreign byte.
+/// The values of Base32 characters, or the index of the first byte that is none.
 fn quintets_of(bytes: &[u8]) -> Result<Vec<u8>, usize> {
     let mut quintets = Vec::new();
     for (index, &byte) in bytes.iter().enumerate() {
@@ -176,7 +176,7 @@ fn octets_from(quintets: &[u8]) -> Option<Vec<u8>> {
 fn units_from(octets: &[u8]) -> Option<Vec<u16>> {
     match octets.split_first()? {
         (&FULL, rest) => units_in_full(rest),
-        _ => units_in_stretches(octets),
+        _ => units_in_runs(octets),
     }
 }
 
@@ -187,16 +187,16 @@ fn units_in_full(octets: &[u8]) -> Option<Vec<u16>> {
     }
     let unit = |pair: &[u8]| u16::from_be_bytes([pair[0], pair[1]]);
     let units: Vec<u16> = octets.chunks(2).map(unit).collect();
-    if 2 * stretches(&units).len() > units.len() {
+    if 2 * runs(&units).len() > units.len() {
         Some(units)
     } else {
         None
     }
 }
 
-/// Stretches with count 1 or more, neighbours differing in high octet, ending
+/// Runs with count 1 or more, neighbours differing in high octet, ending
 /// exactly at the end, with 2r at most n.
-fn units_in_stretches(octets: &[u8]) -> Option<Vec<u16>> {
+fn units_in_runs(octets: &[u8]) -> Option<Vec<u16>> {
     let mut units = Vec::new();
     let mut found = 0;
     let mut high_before = None;

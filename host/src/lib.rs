@@ -1,22 +1,20 @@
 //! Distelhut written a second time, from the papers alone, for comparison.
 //!
-//! Every entry takes an input slice and a lent output slice. It answers a value
-//! with its count, or a refusal with its number and place. A refusal writes
-//! nothing, and a success writes nothing from the count on.
+//! Every function takes an input slice and an output buffer. It answers a value
+//! with its count, or an error with its code and position. After an error the
+//! buffer is as it was, and after success it is so from the count on.
 
 pub mod altdude;
-pub mod book;
-pub mod calls;
-pub mod cases;
+pub mod c_interface;
 pub mod compare;
-#[cfg(feature = "proved")]
-pub mod exported;
-pub mod face;
-pub mod gen;
+pub mod error;
+pub mod functions;
+pub mod generate;
 pub mod lace;
-pub mod notation;
+pub mod nametable;
 pub mod papers;
 pub mod point;
-pub mod refusal;
+#[cfg(feature = "proved")]
+pub mod proved;
 pub mod scheme;
 pub mod utf16;

@@ -1,43 +1,76 @@
 //! The papers' own examples, as data. Nothing here is computed by the schemes.
 
-use crate::book::{CARD_LENGTH, HEADER_KIND};
+use crate::nametable::{ENTRY_LENGTH, HEADER_KIND};
+use crate::scheme::Scheme;
 
-/// What a paper says of writing a text.
-#[derive(Clone, Copy, Debug, PartialEq, Eq)]
+/// What a paper says of encoding a text under a scheme.
 pub enum Says {
-    Label(&'static str),
-    Refused(u32),
-    Nothing,
+    Label(String),
+    /// Only the label's length.
+    Length(usize),
+    /// An error with this code, at position 0.
+    Error(u64),
 }
 
-/// A row of the scope paper's table "Known spellings".
-pub struct Row {
+/// A text, and what a paper says of encoding it under a scheme.
+pub struct Known {
+    pub scheme: Scheme,
     pub text: Vec<u32>,
-    pub altdude: Says,
-    pub lace: Says,
+    pub says: Says,
 }
 
-fn row(text: &[u32], altdude: Says, lace: Says) -> Row {
-    Row { text: text.to_vec(), altdude, lace }
+fn label(scheme: Scheme, text: &[u32], label: &str) -> Known {
+    Known { scheme, text: text.to_vec(), says: Says::Label(label.to_string()) }
 }
 
-/// The table "Known spellings", row by row.
-pub fn known_rows() -> Vec<Row> {
-    use Says::{Label, Nothing, Refused};
+fn length(scheme: Scheme, text: &[u32], length: usize) -> Known {
+    Known { scheme, text: text.to_vec(), says: Says::Length(length) }
+}
+
+fn error(scheme: Scheme, text: &[u32], code: u64) -> Known {
+    Known { scheme, text: text.to_vec(), says: Says::Error(code) }
+}
+
+/// All that the papers say of encoding a text.
+pub fn known() -> Vec<Known> {
+    [known_rows(), edges(), known_003(), known_004()].into_iter().flatten().collect()
+}
+
+/// The cells of the scope paper's table "Known spellings", row by row.
+pub fn known_rows() -> Vec<Known> {
+    use Scheme::{AltDude, Lace};
     vec![
-        row(&[0x60], Label("a"), Nothing),
-        row(&[0x61], Label("b"), Refused(6)),
-        row(&[0xFC], Label("3n"), Label("lq--74apy")),
-        row(&[0xFC, 0xFC], Nothing, Label("lq--aiapz7a")),
-        row(&[0x61, 0x2D, 0x61], Label("b-a"), Refused(6)),
-        row(&[0x10FFFF], Label("ts993r"), Nothing),
-        row(&[0x1F9F6], Label("t933g"), Label("lq--77md5xpw")),
-        row(&[0x12F, 0x111, 0x149, 0xE5], Nothing, Label("lq--amas6ekjaeaok")),
-        row(
-            &[0x305D, 0x306E, 0x30B9, 0x30D4, 0x30FC, 0x30C9, 0x3067],
-            Label("vsvpvd7hypuivf4q"),
-            Nothing,
-        ),
+        label(AltDude, &[0x60], "a"),
+        label(AltDude, &[0x61], "b"),
+        error(Lace, &[0x61], 6),
+        label(AltDude, &[0xFC], "3n"),
+        label(Lace, &[0xFC], "lq--74apy"),
+        label(Lace, &[0xFC, 0xFC], "lq--aiapz7a"),
+        label(AltDude, &[0x61, 0x2D, 0x61], "b-a"),
+        error(Lace, &[0x61, 0x2D, 0x61], 6),
+        label(AltDude, &[0x10FFFF], "ts993r"),
+        label(AltDude, &[0x1F9F6], "t933g"),
+        label(Lace, &[0x1F9F6], "lq--77md5xpw"),
+        label(Lace, &[0x12F, 0x111, 0x149, 0xE5], "lq--amas6ekjaeaok"),
+        label(AltDude, &KANA, "vsvpvd7hypuivf4q"),
+    ]
+}
+
+/// The text of the table's last row.
+pub const KANA: [u32; 7] = [0x305D, 0x306E, 0x30B9, 0x30D4, 0x30FC, 0x30C9, 0x3067];
+
+/// The scope paper's paragraph "Edges".
+pub fn edges() -> Vec<Known> {
+    use Scheme::{AltDude, Lace};
+    vec![
+        label(AltDude, &[0x61; 63], &format!("b{}", "a".repeat(62))),
+        error(AltDude, &[0x61; 64], 3),
+        label(AltDude, &in_turn(10), &format!("ts993r{}", "ts993q".repeat(9))),
+        error(AltDude, &in_turn(11), 3),
+        length(Lace, &[0x431; 34], 62),
+        error(Lace, &[0x431; 35], 3),
+        length(Lace, &ever_changing(17), 60),
+        error(Lace, &ever_changing(18), 3),
     ]
 }
 
@@ -49,8 +82,8 @@ pub struct Example {
     pub shown: &'static str,
     /// The label as the draft prints it, its two lines joined where it has two.
     pub label: &'static str,
-    /// The refusal that the scope paper's limits give it, if any.
-    pub refused: Option<u32>,
+    /// The error that the scope paper's limits give it, if any.
+    pub code: Option<u64>,
 }
 
 impl Example {
@@ -64,17 +97,17 @@ impl Example {
 
 /// An example that is written.
 const fn example(letter: char, shown: &'static str, label: &'static str) -> Example {
-    Example { letter, shown, label, refused: None }
+    Example { letter, shown, label, code: None }
 }
 
 /// An example whose label is over 63 bytes.
 const fn long(letter: char, shown: &'static str, label: &'static str) -> Example {
-    Example { letter, shown, label, refused: Some(3) }
+    Example { letter, shown, label, code: Some(3) }
 }
 
 /// An example with a hyphen at its edges.
 const fn at_edges(letter: char, shown: &'static str, label: &'static str) -> Example {
-    Example { letter, shown, label, refused: Some(5) }
+    Example { letter, shown, label, code: Some(5) }
 }
 
 /// Every example string of source document 003, A to S.
@@ -82,7 +115,7 @@ const fn at_edges(letter: char, shown: &'static str, label: &'static str) -> Exa
 /// A, B, D to H and J list code points; they are copied one by one. C, I and K
 /// to R mix letters with names such as `<ccaron>`; each name is replaced by the
 /// code points that the draft gives under the text. S stands as it is.
-/// G and K spell over 63 bytes (3); S begins and ends with a hyphen (5).
+/// The labels of G and K are over 63 bytes (3); S begins and ends with a hyphen (5).
 pub const EXAMPLES_003: [Example; 19] = [
     example(
         'A',
@@ -187,10 +220,22 @@ pub const EXAMPLES_003: [Example; 19] = [
     at_edges('S', "-> $1.00 <-", "-xqtqetftrtqatatn-"),
 ];
 
-/// A compression example of source document 004, section 2.4.3.
+/// The examples of source document 003 on the folded text.
+fn known_003() -> Vec<Known> {
+    let known = |example: &Example| match example.code {
+        None => label(Scheme::AltDude, &example.text(), &example.label.to_ascii_lowercase()),
+        Some(code) => error(Scheme::AltDude, &example.text(), code),
+    };
+    EXAMPLES_003.iter().map(known).collect()
+}
+
+/// A compression example of source document 004, section 2.4.3. The draft gives
+/// the octets only. The label is these octets put through another Base32
+/// encoder; the second is also in the scope paper.
 pub struct Octets {
     pub text: &'static [u32],
     pub octets: &'static [u8],
+    pub label: &'static str,
 }
 
 /// The three compression examples of source document 004, in its order.
@@ -199,60 +244,66 @@ pub fn octets_004() -> [Octets; 3] {
         Octets {
             text: &[0x30E6, 0x30CB, 0x30B3, 0x30FC, 0x30C9],
             octets: &[0x05, 0x30, 0xE6, 0xCB, 0xB3, 0xFC, 0xC9],
+            label: "lq--auyons5t7teq",
         },
         Octets {
             text: &[0x012F, 0x0111, 0x0149, 0x00E5],
             octets: &[0x03, 0x01, 0x2F, 0x11, 0x49, 0x01, 0x00, 0xE5],
+            label: "lq--amas6ekjaeaok",
         },
         Octets {
             text: &[0x012F, 0x00E0, 0x014B],
             octets: &[0xFF, 0x01, 0x2F, 0x00, 0xE0, 0x01, 0x4B],
+            label: "lq--74as6ahaaffq",
         },
     ]
+}
+
+/// The compression examples of source document 004 with their labels.
+fn known_004() -> Vec<Known> {
+    let known = |example: &Octets| label(Scheme::Lace, example.text, example.label);
+    octets_004().iter().map(known).collect()
 }
 
 /// The Base32 example of source document 004, section 2.5.3.
 pub const BASE32_004: ([u8; 4], &str) = ([0x3A, 0x27, 0x0F, 0x93], "hitq7ey");
 
-/// A label that looks right and is not: the scope paper's list of slips.
+/// A label that looks right and is not, and the code of its error.
 pub struct Slip {
+    pub scheme: Scheme,
     pub label: &'static str,
-    pub refused: u32,
+    pub code: u64,
 }
 
-/// The slips under AltDUDE.
-pub const ALTDUDE_SLIPS: [Slip; 3] = [
-    Slip { label: "sb", refused: 9 },
-    Slip { label: "wp", refused: 9 },
-    Slip { label: "x", refused: 9 },
+/// The scope paper's section "Slips that look right".
+pub const SLIPS: [Slip; 6] = [
+    Slip { scheme: Scheme::AltDude, label: "sb", code: 9 },
+    Slip { scheme: Scheme::AltDude, label: "wp", code: 9 },
+    Slip { scheme: Scheme::AltDude, label: "x", code: 9 },
+    Slip { scheme: Scheme::Lace, label: "lq--aeapy", code: 9 },
+    Slip { scheme: Scheme::Lace, label: "lq--74apz", code: 9 },
+    Slip { scheme: Scheme::Lace, label: "lq--aiagcyq", code: 6 },
 ];
 
-/// The slips under LACE.
-pub const LACE_SLIPS: [Slip; 3] = [
-    Slip { label: "lq--aeapy", refused: 9 },
-    Slip { label: "lq--74apz", refused: 9 },
-    Slip { label: "lq--aiagcyq", refused: 6 },
-];
-
-/// The bytes of a book with these cards: kind, reader number, label of at most
-/// 63 bytes.
-pub fn book_of(cards: &[(u8, u16, Vec<u8>)]) -> Vec<u8> {
-    let mut book = vec![HEADER_KIND];
-    book.extend((cards.len() as u16).to_be_bytes());
-    for (kind, reader, label) in cards {
-        let mut card = vec![*kind];
-        card.extend(reader.to_be_bytes());
-        card.push(label.len() as u8);
-        card.extend(label);
-        card.resize(CARD_LENGTH, 0);
-        book.extend(card);
+/// The bytes of a table with these entries: kind, reader number, label of at
+/// most 63 bytes.
+pub fn table_of(entries: &[(u8, u16, Vec<u8>)]) -> Vec<u8> {
+    let mut table = vec![HEADER_KIND];
+    table.extend((entries.len() as u16).to_be_bytes());
+    for (kind, reader, label) in entries {
+        let mut entry = vec![*kind];
+        entry.extend(reader.to_be_bytes());
+        entry.push(label.len() as u8);
+        entry.extend(label);
+        entry.resize(ENTRY_LENGTH, 0);
+        table.extend(entry);
     }
-    book
+    table
 }
 
-/// The scope paper's book: cards 7 (AltDUDE `3n`) and 300 (LACE `lq--74apy`).
-pub fn sample_book() -> Vec<u8> {
-    book_of(&[(0x41, 7, b"3n".to_vec()), (0x4C, 300, b"lq--74apy".to_vec())])
+/// The scope paper's example: entries 7 (AltDUDE `3n`) and 300 (LACE `lq--74apy`).
+pub fn sample_table() -> Vec<u8> {
+    table_of(&[(0x41, 7, b"3n".to_vec()), (0x4C, 300, b"lq--74apy".to_vec())])
 }
 
 /// U+10FFFF and U+0061 in turn, so many points.

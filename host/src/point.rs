@@ -1,6 +1,6 @@
 //! Points, LDH, and the folding of case.
 
-/// The most bytes in a label, and the room a label or points buffer needs.
+/// The most bytes in a label, and the capacity that a label or points buffer needs.
 pub const LABEL_MAX: usize = 63;
 
 /// The point of the hyphen.
@@ -17,7 +17,7 @@ pub fn is_point(number: u32) -> bool {
 }
 
 /// The index of the first number that is no point.
-pub fn first_no_point(numbers: &[u32]) -> Option<usize> {
+pub fn first_not_point(numbers: &[u32]) -> Option<usize> {
     numbers.iter().position(|&number| !is_point(number))
 }
 

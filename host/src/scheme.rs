@@ -1,6 +1,6 @@
 //! The two schemes, by number and by kind of record.
 
-use crate::refusal::Refusal;
+use crate::error::Error;
 use crate::{altdude, lace};
 
 /// A label scheme. The discriminant is its number.
@@ -10,7 +10,7 @@ pub enum Scheme {
     Lace = 2,
 }
 
-/// The house default, scheme number 0.
+/// The default scheme, number 0.
 pub const DEFAULT: Scheme = Scheme::Lace;
 
 impl Scheme {
@@ -24,7 +24,7 @@ impl Scheme {
         }
     }
 
-    /// The scheme of a card's kind.
+    /// The scheme of an entry's kind.
     pub fn of_kind(kind: u8) -> Option<Scheme> {
         match kind {
             0x41 => Some(Scheme::AltDude),
@@ -33,7 +33,7 @@ impl Scheme {
         }
     }
 
-    /// The kind of a card with this scheme.
+    /// The kind of an entry with this scheme.
     pub fn kind(self) -> u8 {
         match self {
             Scheme::AltDude => 0x41,
@@ -46,16 +46,16 @@ impl Scheme {
         self as u32
     }
 
-    /// Writes a text as a label of this scheme.
-    pub fn encode(self, text: &[u32], out: &mut [u8]) -> Result<usize, Refusal> {
+    /// Encodes a text as a label of this scheme.
+    pub fn encode(self, text: &[u32], out: &mut [u8]) -> Result<usize, Error> {
         match self {
             Scheme::AltDude => altdude::encode(text, out),
             Scheme::Lace => lace::encode(text, out),
         }
     }
 
-    /// Reads a label of this scheme as a text.
-    pub fn decode(self, label: &[u8], out: &mut [u32]) -> Result<usize, Refusal> {
+    /// Decodes a label of this scheme to a text.
+    pub fn decode(self, label: &[u8], out: &mut [u32]) -> Result<usize, Error> {
         match self {
             Scheme::AltDude => altdude::decode(label, out),
             Scheme::Lace => lace::decode(label, out),

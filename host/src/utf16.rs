@@ -1,7 +1,7 @@
 //! The converter between points and UTF-16 units, both ways.
 
+use crate::error::{error, error_at, Error, ErrorCode};
 use crate::point::{is_point, is_surrogate};
-use crate::refusal::{refuse, refuse_at, Cause, Refusal};
 
 /// How many points: what the screen counts.
 #[derive(Clone, Copy, Debug, PartialEq, Eq)]
@@ -13,14 +13,14 @@ pub struct UnitCount(pub usize);
 
 /// Converts the first `count` points to units.
 ///
-/// A count above the row's length is refused with 1 at 0 before anything else.
-pub fn to_units(points: &[u32], count: PointCount, out: &mut [u16]) -> Result<UnitCount, Refusal> {
+/// A count above the row's length is error 1 at position 0, before anything else.
+pub fn to_units(points: &[u32], count: PointCount, out: &mut [u16]) -> Result<UnitCount, Error> {
     let PointCount(count) = count;
     if count > points.len() || out.len() < 2 * count {
-        return refuse(Cause::Room);
+        return error(ErrorCode::Capacity);
     }
     match units_of(&points[..count]) {
-        Err(place) => refuse_at(Cause::NoPoint, place),
+        Err(position) => error_at(ErrorCode::NotAPoint, position),
         Ok(units) => {
             out[..units.len()].copy_from_slice(&units);
             Ok(UnitCount(units.len()))
@@ -30,14 +30,14 @@ pub fn to_units(points: &[u32], count: PointCount, out: &mut [u16]) -> Result<Un
 
 /// Converts the first `count` units to points.
 ///
-/// A count above the row's length is refused with 1 at 0 before anything else.
-pub fn to_points(units: &[u16], count: UnitCount, out: &mut [u32]) -> Result<PointCount, Refusal> {
+/// A count above the row's length is error 1 at position 0, before anything else.
+pub fn to_points(units: &[u16], count: UnitCount, out: &mut [u32]) -> Result<PointCount, Error> {
     let UnitCount(count) = count;
     if count > units.len() || out.len() < count {
-        return refuse(Cause::Room);
+        return error(ErrorCode::Capacity);
     }
     match points_of(&units[..count]) {
-        Err(place) => refuse_at(Cause::Unpaired, place),
+        Err(position) => error_at(ErrorCode::UnpairedSurrogate, position),
         Ok(points) => {
             out[..points.len()].copy_from_slice(&points);
             Ok(PointCount(points.len()))

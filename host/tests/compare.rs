@@ -1,115 +1,356 @@
-//! The comparison itself, without the proved library: the independent face
-//! agrees with itself, and a face with a planted error is found out.
+//! The comparison itself, without the proved library: the independent
+//! implementation agrees with itself, and one with a planted error is found out.
 
-use distelhut_host::calls::{known, Answer};
-use distelhut_host::compare::{compare, Face, INDEPENDENT};
-use distelhut_host::face;
+use distelhut_host::compare::COMPARISONS;
+use distelhut_host::functions::{Function, Implementation, INDEPENDENT};
 
-const CALLS: usize = 20_000;
-
-/// What the comparison says of a face with an error.
-fn difference(wrong: Face) -> String {
-    compare(CALLS, 1, &[INDEPENDENT, wrong]).unwrap_err()
-}
+const CASES: usize = 20_000;
 
 #[test]
-fn the_independent_face_agrees_with_itself() {
-    let line = compare(CALLS, 1, &[INDEPENDENT; 2]).unwrap();
-    assert!(line.starts_with("20000 generated and 154 fixed calls agree; write: "), "{line}");
-}
-
-#[test]
-fn too_few_calls_are_no_comparison() {
-    let line = compare(20, 1, &[INDEPENDENT; 2]).unwrap_err();
-    assert!(line.contains("write must meet [1, 2, 3, 5, 6, 10, 11, 12]"), "{line}");
-}
-
-#[test]
-fn the_papers_say_each_refusal_of_the_face() {
-    let calls = known();
-    for refusal in [1, 2, 3, 5, 6, 7, 8, 9, 10, 11, 12] {
-        let said = Answer::Refused(refusal);
-        assert!(calls.iter().any(|one| one.answer == said), "{refusal}");
-    }
-}
-
-/// Takes 254 text bytes for 252.
-fn write_254(scheme: u32, text: &[u8], label: &mut [u8]) -> u32 {
-    let kept = if text.len() == 254 { &text[..252] } else { text };
-    face::write(scheme, kept, label)
-}
-
-/// Takes the low byte of a unit first.
-fn write_low_first(scheme: u32, text: &[u8], label: &mut [u8]) -> u32 {
-    let swapped: Vec<u8> = text.chunks(2).flat_map(|pair| pair.iter().rev().copied()).collect();
-    face::write(scheme, &swapped, label)
-}
-
-/// Takes the default for AltDUDE.
-fn write_other_default(scheme: u32, text: &[u8], label: &mut [u8]) -> u32 {
-    face::write(if scheme == 0 { 1 } else { scheme }, text, label)
-}
-
-/// Looks at the last byte of the scheme number only.
-fn read_narrow_scheme(scheme: u32, label: &[u8], text: &mut [u8]) -> u32 {
-    face::read(scheme % 256, label, text)
-}
-
-/// Asks for a byte less of room than is needed.
-fn read_251(scheme: u32, label: &[u8], text: &mut [u8]) -> u32 {
-    if text.len() != 251 {
-        return face::read(scheme, label, text);
-    }
-    let mut room = [0; 252];
-    let answer = face::read(scheme, label, &mut room);
-    text.copy_from_slice(&room[..251]);
-    answer
-}
-
-/// Ends the text with a zero, where there is room.
-fn read_zero_ended(scheme: u32, label: &[u8], text: &mut [u8]) -> u32 {
-    let answer = face::read(scheme, label, text);
-    if let Some(byte) = text.get_mut(answer as usize) {
-        *byte = 0;
-    }
-    answer
-}
-
-/// Clears the first byte before the label is judged.
-fn read_clearing(scheme: u32, label: &[u8], text: &mut [u8]) -> u32 {
-    let answer = face::read(scheme, label, text);
-    match text.first_mut() {
-        Some(first) if answer >= 1000 => *first = 0,
-        _ => {}
-    }
-    answer
-}
-
-/// Takes a label of 64 bytes for one of 63.
-fn read_64(scheme: u32, label: &[u8], text: &mut [u8]) -> u32 {
-    let kept = if label.len() == 64 { &label[..63] } else { label };
-    face::read(scheme, kept, text)
-}
-
-#[test]
-fn planted_errors_of_writing_are_found() {
-    for write in [write_254, write_low_first, write_other_default] {
-        let difference = difference(Face { write, ..INDEPENDENT });
-        assert!(difference.contains(" differs: write, scheme "), "{difference}");
+fn the_independent_implementation_agrees_with_itself() {
+    for (name, compare) in COMPARISONS {
+        let line = compare(CASES, 1, &[INDEPENDENT; 2]).unwrap();
+        assert!(line.starts_with(&format!("{name}: 20000 cases agree: ")), "{line}");
     }
 }
 
 #[test]
-fn planted_errors_of_reading_are_found() {
-    for read in [read_narrow_scheme, read_251, read_zero_ended, read_clearing, read_64] {
-        let difference = difference(Face { read, ..INDEPENDENT });
-        assert!(difference.contains(" differs: read, scheme "), "{difference}");
+fn too_few_cases_are_no_comparison() {
+    for (_, compare) in COMPARISONS {
+        let line = compare(5, 1, &[INDEPENDENT; 2]).unwrap_err();
+        assert!(line.contains("; the codes must be ["), "{line}");
     }
 }
 
+/// The comparison of a function finds an error in each of some implementations.
+fn found(function: &str, planted: &[Implementation]) {
+    let (_, compare) = COMPARISONS.iter().find(|(name, _)| *name == function).unwrap();
+    for (index, &wrong) in planted.iter().enumerate() {
+        let difference = compare(CASES, 1, &[INDEPENDENT, wrong]).unwrap_err();
+        assert!(difference.contains(" differs: "), "{index}: {difference}");
+    }
+}
+
+/// Makes a call, and answers the five numbers with it.
+fn numbers<G, B>(
+    function: Function<G, B>,
+    given: &[G],
+    number: usize,
+    buffer: &mut [B],
+    answer: &mut [u64],
+) -> [u64; 5] {
+    let mut five = [0; 5];
+    function(given, number, buffer, &mut five);
+    function(given, number, buffer, answer);
+    five
+}
+
 #[test]
-fn an_error_in_both_faces_is_found_by_the_papers() {
-    let wrong = Face { write: write_other_default, ..INDEPENDENT };
-    let difference = compare(CALLS, 1, &[wrong; 2]).unwrap_err();
-    assert!(difference.ends_with("and not Refused(6)"), "{difference}");
+fn errors_of_to_units() {
+    found(
+        "to_units",
+        &[
+            // twice the count wraps
+            Implementation {
+                to_units: |points, count, units, answer| {
+                    (INDEPENDENT.to_units)(points, count & !(1 << 63), units, answer);
+                },
+                ..INDEPENDENT
+            },
+            // the whole row is converted
+            Implementation {
+                to_units: |points, count, units, answer| {
+                    let count = if count < points.len() { points.len() } else { count };
+                    (INDEPENDENT.to_units)(points, count, units, answer);
+                },
+                ..INDEPENDENT
+            },
+        ],
+    );
+}
+
+#[test]
+fn errors_of_to_points() {
+    found(
+        "to_points",
+        &[
+            // the position is one too high
+            Implementation {
+                to_points: |units, count, points, answer| {
+                    let function = INDEPENDENT.to_points;
+                    let five = numbers(function, units, count, points, answer);
+                    if five[0] == 10 && answer.len() >= 5 {
+                        answer[1] += 1;
+                    }
+                },
+                ..INDEPENDENT
+            },
+            // the buffer is cleared to its end
+            Implementation {
+                to_points: |units, count, points, answer| {
+                    let function = INDEPENDENT.to_points;
+                    let five = numbers(function, units, count, points, answer);
+                    if five[0] == 0 {
+                        points[five[2] as usize..].fill(0);
+                    }
+                },
+                ..INDEPENDENT
+            },
+        ],
+    );
+}
+
+#[test]
+fn errors_of_altdude_encode() {
+    found(
+        "altdude_encode",
+        &[
+            // a capacity of 62 is enough
+            Implementation {
+                altdude_encode: |text, _, label, answer| {
+                    if label.len() != 62 {
+                        return (INDEPENDENT.altdude_encode)(text, 0, label, answer);
+                    }
+                    let mut longer = [0; 63];
+                    (INDEPENDENT.altdude_encode)(text, 0, &mut longer, answer);
+                    label.copy_from_slice(&longer[..62]);
+                },
+                ..INDEPENDENT
+            },
+            // the numbers are stored where there is capacity for four
+            Implementation {
+                altdude_encode: |text, _, label, answer| {
+                    let function = INDEPENDENT.altdude_encode;
+                    let five = numbers(function, text, 0, label, answer);
+                    if answer.len() == 4 {
+                        answer.copy_from_slice(&five[..4]);
+                    }
+                },
+                ..INDEPENDENT
+            },
+        ],
+    );
+}
+
+#[test]
+fn errors_of_altdude_decode() {
+    found(
+        "altdude_decode",
+        &[
+            // a label of 64 bytes is taken for one of 63
+            Implementation {
+                altdude_decode: |label, _, text, answer| {
+                    let label = if label.len() == 64 { &label[..63] } else { label };
+                    (INDEPENDENT.altdude_decode)(label, 0, text, answer);
+                },
+                ..INDEPENDENT
+            },
+            // 9 is reported before 5
+            Implementation {
+                altdude_decode: |label, _, text, answer| {
+                    let five = numbers(INDEPENDENT.altdude_decode, label, 0, text, answer);
+                    if five[0] == 5 && label.contains(&b's') && answer.len() >= 5 {
+                        answer[0] = 9;
+                    }
+                },
+                ..INDEPENDENT
+            },
+        ],
+    );
+}
+
+#[test]
+fn errors_of_lace_encode() {
+    found(
+        "lace_encode",
+        &[
+            // the prefix is stored before the text is judged
+            Implementation {
+                lace_encode: |text, _, label, answer| {
+                    if let Some(front) = label.get_mut(..4) {
+                        front.copy_from_slice(b"lq--");
+                    }
+                    (INDEPENDENT.lace_encode)(text, 0, label, answer);
+                },
+                ..INDEPENDENT
+            },
+            // the count is not stored
+            Implementation {
+                lace_encode: |text, _, label, answer| {
+                    let kept = answer.get(2).copied();
+                    (INDEPENDENT.lace_encode)(text, 0, label, answer);
+                    if let Some(kept) = kept {
+                        answer[2] = kept;
+                    }
+                },
+                ..INDEPENDENT
+            },
+        ],
+    );
+}
+
+#[test]
+fn errors_of_lace_decode() {
+    found(
+        "lace_decode",
+        &[
+            // the position is counted from behind the prefix
+            Implementation {
+                lace_decode: |label, _, text, answer| {
+                    let five = numbers(INDEPENDENT.lace_decode, label, 0, text, answer);
+                    if five[0] == 7 && answer.len() >= 5 {
+                        answer[1] -= 4;
+                    }
+                },
+                ..INDEPENDENT
+            },
+            // the prefix is compared with its case
+            Implementation {
+                lace_decode: |label, _, text, answer| {
+                    let label = if label.starts_with(b"LQ--") { b"zq--" } else { label };
+                    (INDEPENDENT.lace_decode)(label, 0, text, answer);
+                },
+                ..INDEPENDENT
+            },
+        ],
+    );
+}
+
+#[test]
+fn errors_of_table_read() {
+    found(
+        "table_read",
+        &[
+            // what follows the last entry is not looked at
+            Implementation {
+                table_read: |table, _, none, answer| {
+                    let length = match table {
+                        [0x48, high, low, ..] => {
+                            3 + 67 * (usize::from(*high) * 256 + usize::from(*low))
+                        }
+                        _ => table.len(),
+                    };
+                    let kept = &table[..length.min(table.len())];
+                    (INDEPENDENT.table_read)(kept, 0, none, answer);
+                },
+                ..INDEPENDENT
+            },
+            // 501 entries are one too many only once they are there
+            Implementation {
+                table_read: |table, _, none, answer| {
+                    let table = if table.starts_with(&[0x48, 0x01, 0xF5]) { &[] } else { table };
+                    (INDEPENDENT.table_read)(table, 0, none, answer);
+                },
+                ..INDEPENDENT
+            },
+        ],
+    );
+}
+
+#[test]
+fn errors_of_table_entry() {
+    found(
+        "table_entry",
+        &[
+            // the index is looked at in 32 bits
+            Implementation {
+                table_entry: |table, index, text, answer| {
+                    (INDEPENDENT.table_entry)(table, index % (1 << 32), text, answer);
+                },
+                ..INDEPENDENT
+            },
+            // the reader number of the first entry is told for all
+            Implementation {
+                table_entry: |table, index, text, answer| {
+                    let function = INDEPENDENT.table_entry;
+                    let five = numbers(function, table, index, text, answer);
+                    if five[0] == 0 && answer.len() >= 5 {
+                        answer[3] = u64::from(u16::from_be_bytes([table[4], table[5]]));
+                    }
+                },
+                ..INDEPENDENT
+            },
+            // LACE is told as the default, 0
+            Implementation {
+                table_entry: |table, index, text, answer| {
+                    (INDEPENDENT.table_entry)(table, index, text, answer);
+                    if answer.len() >= 5 && answer[4] == 2 {
+                        answer[4] = 0;
+                    }
+                },
+                ..INDEPENDENT
+            },
+        ],
+    );
+}
+
+#[test]
+fn errors_of_write() {
+    found(
+        "write",
+        &[
+            // 254 bytes are taken for 252
+            Implementation {
+                write: |text, scheme, label, answer| {
+                    let text = if text.len() == 254 { &text[..252] } else { text };
+                    (INDEPENDENT.write)(text, scheme, label, answer);
+                },
+                ..INDEPENDENT
+            },
+            // the low byte of a unit is taken first
+            Implementation {
+                write: |text, scheme, label, answer| {
+                    let swapped: Vec<u8> =
+                        text.chunks(2).flat_map(|pair| pair.iter().rev().copied()).collect();
+                    (INDEPENDENT.write)(&swapped, scheme, label, answer);
+                },
+                ..INDEPENDENT
+            },
+            // the default is AltDUDE
+            Implementation {
+                write: |text, scheme, label, answer| {
+                    (INDEPENDENT.write)(text, scheme.max(1), label, answer);
+                },
+                ..INDEPENDENT
+            },
+        ],
+    );
+}
+
+#[test]
+fn errors_of_read() {
+    found(
+        "read",
+        &[
+            // only the last byte of the scheme number is looked at
+            Implementation {
+                read: |label, scheme, text, answer| {
+                    (INDEPENDENT.read)(label, scheme % 256, text, answer);
+                },
+                ..INDEPENDENT
+            },
+            // a capacity of 251 is enough
+            Implementation {
+                read: |label, scheme, text, answer| {
+                    if text.len() != 251 {
+                        return (INDEPENDENT.read)(label, scheme, text, answer);
+                    }
+                    let mut longer = [0; 252];
+                    (INDEPENDENT.read)(label, scheme, &mut longer, answer);
+                    text.copy_from_slice(&longer[..251]);
+                },
+                ..INDEPENDENT
+            },
+            // a zero ends the text
+            Implementation {
+                read: |label, scheme, text, answer| {
+                    let five = numbers(INDEPENDENT.read, label, scheme, text, answer);
+                    if let Some(byte) = text.get_mut(five[2] as usize) {
+                        *byte = 0;
+                    }
+                },
+                ..INDEPENDENT
+            },
+        ],
+    );
 }

@@ -1,51 +1,36 @@
-//! The published examples of source documents 003 and 004.
+//! The published examples of source documents 003 and 004. `tests/known.rs`
+//! encodes their texts.
 
+mod shared;
+
+use distelhut_host::functions::implementations;
 use distelhut_host::papers::{octets_004, Example, BASE32_004, EXAMPLES_003};
 use distelhut_host::point::same_but_for_case;
 use distelhut_host::{altdude, lace, utf16};
+use shared::called;
 
 // Each text is the draft's, with its names such as <ccaron> replaced by the code
 // points given under it, and then folded. Labels that the draft breaks with a
-// backslash are joined. They are compared ignoring case.
+// backslash are joined. They are compared ignoring case, those over 63 bytes too.
 #[test]
-fn spelling_of_every_example() {
+fn label_of_every_example() {
     let letters: String = EXAMPLES_003.iter().map(|example| example.letter).collect();
     assert_eq!(letters, "ABCDEFGHIJKLMNOPQRS");
     for example in EXAMPLES_003 {
-        let spelling = altdude::spelling(&example.text());
-        let label = example.label.as_bytes();
-        assert!(same_but_for_case(&spelling, label), "example {}", example.letter);
+        let label = altdude::encoding(&example.text());
+        let said = example.label.as_bytes();
+        assert!(same_but_for_case(&label, said), "example {}", example.letter);
     }
 }
 
 #[test]
-fn writing_every_example() {
-    for example in EXAMPLES_003 {
-        let mut room = [0; 63];
-        let answer = altdude::encode(&example.text(), &mut room);
-        match example.refused {
-            None => {
-                let count = answer.unwrap();
-                assert_eq!(room[..count], *example.label.to_ascii_lowercase().as_bytes());
-            }
-            Some(number) => {
-                let refusal = answer.unwrap_err();
-                assert_eq!((refusal.number(), refusal.place), (number, 0));
-            }
-        }
-    }
-}
-
-#[test]
-fn reading_every_example() {
-    for example in EXAMPLES_003 {
-        let mut room = [0; 63];
-        let answer = altdude::decode(example.label.as_bytes(), &mut room);
-        match example.refused {
-            None => assert_eq!(room[..answer.unwrap()], example.text()),
-            Some(number) => {
-                let refusal = answer.unwrap_err();
-                assert_eq!((refusal.number(), refusal.place), (number, 0));
+fn decoding_every_example_as_printed() {
+    for one in implementations() {
+        for example in EXAMPLES_003 {
+            let answer = called(one.altdude_decode, example.label.as_bytes(), 0, 63);
+            match example.code {
+                None => assert_eq!(answer, Ok(example.text())),
+                Some(code) => assert_eq!(answer, Err((code, 0))),
             }
         }
     }
@@ -84,8 +69,8 @@ fn capitals_of_every_example() {
 #[test]
 fn g_and_k_are_the_only_long_ones() {
     for example in EXAMPLES_003 {
-        assert_eq!(example.label.len() > 63, example.refused == Some(3));
-        assert_eq!(example.label.starts_with('-'), example.refused == Some(5));
+        assert_eq!(example.label.len() > 63, example.code == Some(3));
+        assert_eq!(example.label.starts_with('-'), example.code == Some(5));
     }
 }
 
@@ -97,47 +82,34 @@ fn octets_of_the_compression_examples() {
     }
 }
 
-// The draft gives octets only. These labels are its octets put through another
-// Base32 encoder; the second is also in the scope paper.
-#[test]
-fn labels_of_the_compression_examples() {
-    let labels = ["lq--auyons5t7teq", "lq--amas6ekjaeaok", "lq--74as6ahaaffq"];
-    for (example, label) in octets_004().iter().zip(labels) {
-        let mut room = [0; 63];
-        let count = lace::encode(example.text, &mut room).unwrap();
-        assert_eq!(std::str::from_utf8(&room[..count]).unwrap(), label);
-        let mut points = [0; 63];
-        let count = lace::decode(label.as_bytes(), &mut points).unwrap();
-        assert_eq!(points[..count], *example.text);
-    }
-}
-
 #[test]
 fn base32_example() {
     let (octets, characters) = BASE32_004;
     assert_eq!(lace::base32_of(&octets), characters.as_bytes());
 }
 
-// As octets of a label, 3A 27 0F 93 is a stretch of 58 cut short.
+// As octets of a label, 3A 27 0F 93 is a run of 58 cut short.
 #[test]
 fn base32_example_as_a_label() {
-    let mut points = [0; 63];
-    let refusal = lace::decode(b"lq--hitq7ey", &mut points).unwrap_err();
-    assert_eq!((refusal.number(), refusal.place), (9, 0));
+    for one in implementations() {
+        assert_eq!(called(one.lace_decode, b"lq--hitq7ey", 0, 63), Err((9, 0)));
+    }
 }
 
-// The sample code of 003 wraps in 32 bits and relies on writing again; the
+// The sample code of 003 wraps in 32 bits and relies on encoding again; the
 // rules of form alone must refuse the same labels.
 #[test]
 fn sample_code_of_003_would_wrap() {
-    let mut points = [0; 63];
-    assert_eq!(altdude::decode(b"tsssssssb", &mut points).unwrap_err().number(), 9);
+    for one in implementations() {
+        assert_eq!(called(one.altdude_decode, b"tsssssssb", 0, 63), Err((9, 0)));
+    }
 }
 
 // The sample code of 004 takes at most 62 text octets; the draft's text and the
 // scope paper allow 34 units of one row, 68 octets.
 #[test]
 fn text_of_004_stands_above_its_sample_code() {
-    let mut room = [0; 63];
-    assert_eq!(lace::encode(&[0x431; 34], &mut room), Ok(62));
+    for one in implementations() {
+        assert_eq!(called(one.lace_encode, &[0x431; 34], 0, 63).unwrap().len(), 62);
+    }
 }

@@ -1,8 +1,8 @@
 //! The C header's constants against the scope paper's numbers.
 
-use distelhut_host::face::{REFUSED, TEXT_MAX};
+use distelhut_host::c_interface::{ERROR_BASE, TEXT_MAX};
+use distelhut_host::error::ErrorCode;
 use distelhut_host::point::LABEL_MAX;
-use distelhut_host::refusal::Cause;
 use distelhut_host::scheme::{Scheme, DEFAULT};
 
 const HEADER: &str = include_str!("../../include/distelhut.h");
@@ -17,9 +17,9 @@ fn constants() -> Vec<(&'static str, u32)> {
     HEADER.lines().filter_map(constant).collect()
 }
 
-/// The answer with which a cause is refused.
-fn answer(cause: Cause) -> u32 {
-    REFUSED + cause as u32
+/// The number that the C interface answers with a code.
+fn answer(code: ErrorCode) -> u32 {
+    ERROR_BASE + code as u32
 }
 
 #[test]
@@ -30,18 +30,18 @@ fn constants_are_the_papers() {
         ("SCHEME_LACE", Scheme::Lace.number()),
         ("SIZE_LABEL", LABEL_MAX as u32),
         ("SIZE_TEXT", TEXT_MAX as u32),
-        ("ERR_BASE", REFUSED),
-        ("ERR_CAPACITY", answer(Cause::Room)),
-        ("ERR_EMPTY", answer(Cause::Empty)),
-        ("ERR_TOO_LONG", answer(Cause::TooLong)),
-        ("ERR_EDGE_HYPHEN", answer(Cause::EdgeHyphen)),
-        ("ERR_ALL_LDH", answer(Cause::AllLdh)),
-        ("ERR_OUTSIDE_ALPHABET", answer(Cause::ForeignByte)),
-        ("ERR_NO_PREFIX", answer(Cause::NoMark)),
-        ("ERR_NOT_WELL_FORMED", answer(Cause::BadForm)),
-        ("ERR_UNPAIRED_SURROGATE", answer(Cause::Unpaired)),
-        ("ERR_UNKNOWN_SCHEME", answer(Cause::UnknownScheme)),
-        ("ERR_ODD_BYTE_COUNT", answer(Cause::OddBytes)),
+        ("ERR_BASE", ERROR_BASE),
+        ("ERR_CAPACITY", answer(ErrorCode::Capacity)),
+        ("ERR_EMPTY", answer(ErrorCode::Empty)),
+        ("ERR_TOO_LONG", answer(ErrorCode::TooLong)),
+        ("ERR_EDGE_HYPHEN", answer(ErrorCode::EdgeHyphen)),
+        ("ERR_ALL_LDH", answer(ErrorCode::AllLdh)),
+        ("ERR_OUTSIDE_ALPHABET", answer(ErrorCode::OutsideAlphabet)),
+        ("ERR_NO_PREFIX", answer(ErrorCode::NoPrefix)),
+        ("ERR_NOT_WELL_FORMED", answer(ErrorCode::NotWellFormed)),
+        ("ERR_UNPAIRED_SURROGATE", answer(ErrorCode::UnpairedSurrogate)),
+        ("ERR_UNKNOWN_SCHEME", answer(ErrorCode::UnknownScheme)),
+        ("ERR_ODD_BYTE_COUNT", answer(ErrorCode::OddByteCount)),
     ];
     assert_eq!(constants(), expected);
     assert_eq!(Scheme::of_number(0), Some(DEFAULT));

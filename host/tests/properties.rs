@@ -1,27 +1,28 @@
 //! What must hold of every input, tried on generated and on all short ones.
 //!
-//! The drafts describe reading as: decode, write again, compare. The library
-//! goes by the rules of form instead, so here the two are compared.
+//! The drafts describe decoding as: decode loosely, encode again, compare. The
+//! library goes by the rules of form instead, so here the two are compared.
 
-use distelhut_host::gen::{self, Source};
+use distelhut_host::generate::calls::capacity_around;
+use distelhut_host::generate::{labels, tables, texts, Source};
 use distelhut_host::point::{is_ldh, is_point, same_but_for_case};
 use distelhut_host::scheme::Scheme;
-use distelhut_host::{altdude, book, lace, utf16};
+use distelhut_host::{altdude, lace, nametable, utf16};
 use std::collections::HashMap;
 
 const BOTH: [Scheme; 2] = [Scheme::AltDude, Scheme::Lace];
 const TURNS: usize = 30_000;
 
 /// The text of an accepted label.
-fn read(scheme: Scheme, label: &[u8]) -> Option<Vec<u32>> {
-    let mut room = [0; 63];
-    scheme.decode(label, &mut room).ok().map(|count| room[..count].to_vec())
+fn decoded(scheme: Scheme, label: &[u8]) -> Option<Vec<u32>> {
+    let mut buffer = [0; 63];
+    scheme.decode(label, &mut buffer).ok().map(|count| buffer[..count].to_vec())
 }
 
-/// The label of a text that may be written.
-fn write(scheme: Scheme, text: &[u32]) -> Option<Vec<u8>> {
-    let mut room = [0; 63];
-    scheme.encode(text, &mut room).ok().map(|count| room[..count].to_vec())
+/// The label of a text that may be encoded.
+fn encoded(scheme: Scheme, text: &[u32]) -> Option<Vec<u8>> {
+    let mut buffer = [0; 63];
+    scheme.encode(text, &mut buffer).ok().map(|count| buffer[..count].to_vec())
 }
 
 /// 003's decoding procedure before its comparison, with sums that wrap.
@@ -83,13 +84,13 @@ fn loose_lace(label: &[u8]) -> Option<Vec<u32>> {
     utf16::points_of(&units).ok()
 }
 
-/// Reading as the drafts describe it: decode, write again, compare.
+/// Decoding as the drafts describe it: decode loosely, encode again, compare.
 fn by_the_draft(scheme: Scheme, label: &[u8]) -> Option<Vec<u32>> {
     let text = match scheme {
         Scheme::AltDude => loose_altdude(label)?,
         Scheme::Lace => loose_lace(label)?,
     };
-    let again = write(scheme, &text)?;
+    let again = encoded(scheme, &text)?;
     same_but_for_case(&again, label).then_some(text)
 }
 
@@ -99,8 +100,8 @@ fn generated_labels_agree_with_the_drafts() {
     let mut accepted = 0;
     for _ in 0..TURNS {
         let scheme = source.pick(&BOTH);
-        let label = gen::label(&mut source, scheme);
-        let text = read(scheme, &label);
+        let label = labels::label(&mut source, scheme);
+        let text = decoded(scheme, &label);
         accepted += usize::from(text.is_some());
         assert_eq!(text, by_the_draft(scheme, &label), "{scheme:?} {label:X?}");
     }
@@ -113,11 +114,11 @@ fn every_row(characters: &[u8], length: usize, call: &mut impl FnMut(&[u8])) {
     loop {
         let row: Vec<u8> = digits.iter().map(|&digit: &usize| characters[digit]).collect();
         call(&row);
-        let Some(place) = digits.iter().rposition(|&digit| digit + 1 < characters.len()) else {
+        let Some(position) = digits.iter().rposition(|&digit| digit + 1 < characters.len()) else {
             return;
         };
-        digits[place] += 1;
-        digits[place + 1..].fill(0);
+        digits[position] += 1;
+        digits[position + 1..].fill(0);
     }
 }
 
@@ -128,7 +129,7 @@ fn all_short_altdude_labels_agree_with_the_draft() {
     let mut seen = HashMap::new();
     for length in 1..=3 {
         every_row(&characters, length, &mut |label| {
-            let text = read(Scheme::AltDude, label);
+            let text = decoded(Scheme::AltDude, label);
             assert_eq!(text, by_the_draft(Scheme::AltDude, label), "{label:?}");
             if let Some(text) = text {
                 assert_eq!(seen.insert(text, label.to_vec()), None);
@@ -142,15 +143,15 @@ fn all_short_lace_labels_agree_with_the_draft() {
     let mut seen = HashMap::new();
     for length in 1..=3 {
         every_row(lace::CHARACTERS, length, &mut |tail| {
-            let label = [lace::MARK.as_slice(), tail].concat();
-            assert_eq!(read(Scheme::Lace, &label), None, "{tail:?}");
+            let label = [lace::PREFIX.as_slice(), tail].concat();
+            assert_eq!(decoded(Scheme::Lace, &label), None, "{tail:?}");
             assert_eq!(by_the_draft(Scheme::Lace, &label), None, "{tail:?}");
         });
     }
-    // Five characters are three octets: FF and one unit, or a stretch.
+    // Five characters are three octets: FF and one unit, or a run.
     every_row(b"abcdefghijklmnop234567", 4, &mut |tail| {
         let label = [b"lq--7".as_slice(), tail].concat();
-        let text = read(Scheme::Lace, &label);
+        let text = decoded(Scheme::Lace, &label);
         assert_eq!(text, by_the_draft(Scheme::Lace, &label), "{tail:?}");
         if let Some(text) = text {
             assert_eq!(seen.insert(text, label), None);
@@ -160,87 +161,87 @@ fn all_short_lace_labels_agree_with_the_draft() {
 }
 
 #[test]
-fn every_single_point_is_written_and_read_back() {
+fn every_single_point_is_encoded_and_decoded() {
     for number in 0..0x110000 {
         let point = is_point(number);
-        let altdude = write(Scheme::AltDude, &[number]);
+        let altdude = encoded(Scheme::AltDude, &[number]);
         assert_eq!(altdude.is_some(), point && number != 45);
-        let lace = write(Scheme::Lace, &[number]);
+        let lace = encoded(Scheme::Lace, &[number]);
         assert_eq!(lace.is_some(), point && !is_ldh(number));
         for (scheme, label) in [(Scheme::AltDude, altdude), (Scheme::Lace, lace)] {
             if let Some(label) = label {
-                assert_eq!(read(scheme, &label), Some(vec![number]));
+                assert_eq!(decoded(scheme, &label), Some(vec![number]));
             }
         }
     }
 }
 
 #[test]
-fn written_texts_are_read_back() {
+fn encoded_texts_are_decoded_again() {
     let mut source = Source::new(12);
     for _ in 0..TURNS {
         let scheme = source.pick(&BOTH);
-        let text = gen::text(&mut source);
-        if let Some(mut label) = write(scheme, &text) {
+        let text = texts::text(&mut source);
+        if let Some(mut label) = encoded(scheme, &text) {
             assert!(label
                 .iter()
                 .all(|&byte| is_ldh(u32::from(byte)) && !byte.is_ascii_uppercase()));
-            assert_eq!(read(scheme, &label), Some(text.clone()));
-            gen::change_case(&mut source, &mut label);
-            assert_eq!(read(scheme, &label), Some(text));
+            assert_eq!(decoded(scheme, &label), Some(text.clone()));
+            labels::change_case(&mut source, &mut label);
+            assert_eq!(decoded(scheme, &label), Some(text));
         }
     }
 }
 
 #[test]
-fn read_labels_are_written_back() {
+fn decoded_labels_are_encoded_again() {
     let mut source = Source::new(13);
     for _ in 0..TURNS {
         let scheme = source.pick(&BOTH);
-        let label = gen::label(&mut source, scheme);
-        if let Some(text) = read(scheme, &label) {
-            assert!(same_but_for_case(&write(scheme, &text).unwrap(), &label));
+        let label = labels::label(&mut source, scheme);
+        if let Some(text) = decoded(scheme, &label) {
+            assert!(same_but_for_case(&encoded(scheme, &text).unwrap(), &label));
         }
     }
 }
 
 #[test]
-fn refusals_when_writing_name_their_cause() {
+fn errors_of_encoding_name_their_cause() {
     let mut source = Source::new(14);
     for _ in 0..TURNS {
         let scheme = source.pick(&BOTH);
-        let text = gen::text(&mut source);
-        let mut room = [0x5A; 63];
-        let Err(refusal) = scheme.encode(&text, &mut room) else {
+        let text = texts::text(&mut source);
+        let mut buffer = [0x5A; 63];
+        let Err(error) = scheme.encode(&text, &mut buffer) else {
             continue;
         };
-        assert_eq!(room, [0x5A; 63]);
+        assert_eq!(buffer, [0x5A; 63]);
         let bad = text.iter().position(|&number| !is_point(number));
         let edge = text.first() == Some(&45) || text.last() == Some(&45);
         let expected = match (scheme, bad) {
             _ if text.is_empty() => (2, 0),
-            (_, Some(place)) => (4, place),
+            (_, Some(position)) => (4, position),
             (Scheme::AltDude, None) if edge => (5, 0),
             (Scheme::Lace, None) if text.iter().all(|&point| is_ldh(point)) => (6, 0),
             _ => (3, 0),
         };
-        assert_eq!((refusal.number(), refusal.place), expected);
+        assert_eq!((error.number(), error.position), expected);
     }
 }
 
 #[test]
-fn lent_buffers_keep_what_they_held() {
+fn buffers_keep_what_they_held() {
     let mut source = Source::new(15);
     for _ in 0..TURNS {
         let scheme = source.pick(&BOTH);
-        let label = gen::label(&mut source, scheme);
-        let mut room = vec![0x5A; gen::capacity(&mut source)];
-        let count = scheme.decode(&label, &mut room).unwrap_or(0);
-        assert!(room[count..].iter().all(|&point| point == 0x5A));
-        let text = gen::text(&mut source);
-        let mut room = vec![0x5A; gen::capacity(&mut source)];
-        let count = scheme.encode(&text, &mut room).unwrap_or(0);
-        assert!(room[count..].iter().all(|&byte| byte == 0x5A));
+        let label = labels::label(&mut source, scheme);
+        let mut buffer = vec![0x5A; capacity_around(&mut source, 63)];
+        let count = scheme.decode(&label, &mut buffer).unwrap_or(0);
+        assert!(buffer[count..].iter().all(|&point| point == 0x5A));
+        let text = texts::text(&mut source);
+        let mut buffer = vec![0x5A; capacity_around(&mut source, 63)];
+        let count = scheme.encode(&text, &mut buffer).unwrap_or(0);
+        assert!(buffer[count..].iter().all(|&byte| byte == 0x5A));
     }
 }
 
@@ -248,7 +249,7 @@ fn lent_buffers_keep_what_they_held() {
 fn generated_units_agree_with_the_language() {
     let mut source = Source::new(16);
     for _ in 0..TURNS {
-        let units = gen::units(&mut source);
+        let units = texts::units(&mut source);
         let expected: Result<Vec<u32>, _> =
             char::decode_utf16(units.iter().copied()).map(|one| one.map(u32::from)).collect();
         let points = utf16::points_of(&units);
@@ -260,31 +261,31 @@ fn generated_units_agree_with_the_language() {
 }
 
 #[test]
-fn whole_books_are_read_and_every_cut_is_13() {
+fn whole_tables_are_read_and_every_cut_is_13() {
     let mut source = Source::new(17);
     for turn in 0..60 {
-        let cards = 1 + turn % 4;
-        let whole = gen::whole_book(&mut source, cards);
-        assert_eq!(book::read(&whole), Ok(cards));
+        let entries = 1 + turn % 4;
+        let whole = tables::whole_table(&mut source, entries);
+        assert_eq!(nametable::read(&whole), Ok(entries));
         for length in 0..whole.len() {
-            assert_eq!(book::read(&whole[..length]).unwrap_err().number(), 13);
+            assert_eq!(nametable::read(&whole[..length]).unwrap_err().number(), 13);
         }
     }
 }
 
 #[test]
-fn a_card_is_answered_only_from_a_readable_book() {
+fn an_entry_is_answered_only_from_a_readable_table() {
     let mut source = Source::new(18);
     for _ in 0..3000 {
-        let bytes = gen::book(&mut source);
+        let bytes = tables::table(&mut source);
         let index = source.below(6);
-        let mut room = [0x5A; 63];
-        let answer = book::card(&bytes, index, &mut room);
-        match book::read(&bytes) {
-            Err(refusal) => assert_eq!(answer, Err(refusal)),
-            Ok(cards) => assert_eq!(answer.is_ok(), index < cards),
+        let mut buffer = [0x5A; 63];
+        let answer = nametable::entry(&bytes, index, &mut buffer);
+        match nametable::read(&bytes) {
+            Err(error) => assert_eq!(answer, Err(error)),
+            Ok(entries) => assert_eq!(answer.is_ok(), index < entries),
         }
-        let count = answer.map_or(0, |card| card.count);
-        assert!(room[count..].iter().all(|&point| point == 0x5A));
+        let count = answer.map_or(0, |entry| entry.count);
+        assert!(buffer[count..].iter().all(|&point| point == 0x5A));
     }
 }

@@ -5,4 +5,4 @@ pub mod Items
 pub mod Edges
 pub mod Label
 pub mod Settled
-pub mod SchemeFacts
+pub mod Faithful

@@ -1,4 +1,4 @@
--- The causes of refusal, each by itself, and AltDUDE as a scheme.
+-- The causes of refusal, each by itself.
 use Prim.Native.Nat.{ℕ, _-_}
 use mathlib.Core.Path.{_≡_}
 use mathlib.Core.Bool.{not}
@@ -8,14 +8,11 @@ use lib.ListN.{length}
 use Rattle.basis.specs.Tests.{IsFirst}
 use Rattle.basis.specs.Rows.{at}
 use Rattle.basis.specs.Causes.{Cause, whole, placed}
-use Rattle.basis.specs.Scheme.{Scheme}
 use Rattle.labels.specs.Causes.{TooLong}
 use Rattle.labels.specs.Causes as labels
 use Rattle.altdude.specs.Symbols.{isCharacter}
 use Rattle.altdude.specs.Encoding.{labelOf}
-use Rattle.altdude.specs.Decoding.{textOf}
 use Rattle.altdude_facts.specs.WellFormed.{WellFormed}
-use Rattle.altdude.specs.Answer.{encodeOutcome, decodeOutcome}
 
 -- 5: begins or ends with a hyphen
 abbrev pub EdgeHyphen : List ℕ → Type 0
@@ -36,15 +33,3 @@ textCauses t = labels.textCauses t (whole 5 (EdgeHyphen t) ∷ whole 3 (TooLong 
 -- against reading a label, in order: 2, 3, 7, 5, 9
 abbrev pub labelCauses : List ℕ → List Cause
 labelCauses l = labels.labelCauses l (placed 7 (OutsideAt l) ∷ whole 5 (EdgeHyphen l) ∷ whole 9 (NotWellFormed l) ∷ [])
-
--- AltDUDE as a scheme, of which the demands speak
-abbrev pub scheme : Scheme
-scheme = record {
-  encodeOutcome = encodeOutcome;
-  decodeOutcome = decodeOutcome;
-  labelOf = labelOf;
-  textOf = textOf;
-  textCauses = textCauses;
-  labelCauses = labelCauses;
-  WellFormed = WellFormed;
-}

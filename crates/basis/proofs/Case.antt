@@ -95,3 +95,7 @@ small-case l m e = record {
 
 pub same-but-case : (l m : List ℕ) → SameButCase l m ↔ (map small l ≡ map small m)
 same-but-case l m = (λ s. case-small l m (s .equallyLong) (s .atEach), small-case l m)
+
+-- the small form of a label differs from it at most in case
+pub small-spelled : (label l : List ℕ) → label ≡ map small l → SameButCase label l
+small-spelled label l e = small-case label l (ap (map small) e ∙ all-small l)

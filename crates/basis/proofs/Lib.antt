@@ -6,4 +6,4 @@ pub mod Parts
 pub mod Case
 pub mod Outcome
 pub mod Causes
-pub mod Facts
+pub mod Codec

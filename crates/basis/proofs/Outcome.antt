@@ -113,7 +113,6 @@ passed false number position next count e = (refl, e)
 
 -- an error's number is one more than its place among all, of which there are 14
 pub number-place : (code : ErrorCode) → (numberOf code ≡ suc (tagOf the-type code)) × (numberOf code ≤ 14)
-unfolding numberOf
 number-place Capacity = (refl, omega arith)
 number-place Empty = (refl, omega arith)
 number-place TooLong = (refl, omega arith)

@@ -1,7 +1,7 @@
--- The shared definitions: tests, rows, case, outcomes, causes, schemes.
+-- The shared definitions: tests, rows, case, outcomes, causes, codecs.
 pub mod Tests
 pub mod Rows
 pub mod Case
 pub mod Outcome
 pub mod Causes
-pub mod Scheme
+pub mod Codec

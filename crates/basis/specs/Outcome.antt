@@ -9,7 +9,7 @@ use Rattle.basis.specs.declared.BytesAnswer.{BytesAnswer}
 use Rattle.basis.specs.declared.BytesAnswer.the-variants.{Bytes, Error}
 
 -- the number of each cause of refusal
-unfoldable pub numberOf : ErrorCode → ℕ
+abbrev pub numberOf : ErrorCode → ℕ
 numberOf Capacity = 1
 numberOf Empty = 2
 numberOf TooLong = 3

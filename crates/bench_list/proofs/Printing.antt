@@ -7,7 +7,6 @@ use lib.Seq.{take-all, length-take-le}
 use native.Mathlib.Omega.{arith}
 use Rattle.basis.proofs.Tests.{by-lt}
 use Rattle.labels.proofs.FirstTests.{label-long}
-use Rattle.scheme.specs.Coding.{decodeOutcome}
 use Rattle.lace.specs.Answer as lace
 use Rattle.report.specs.Lines.{refusedLine}
 use Rattle.lines.specs.Lines.{linesOf}
@@ -22,7 +21,7 @@ use Rattle.bench_list.proofs.Answering.{lines-append}
 
 -- a line over 63 bytes is refused 3
 pub long-line : (line : List ℕ) → 63 < length line → benchLine line ≡ refusedLine 3
-unfolding lineFor decodeOutcome lace.decodeOutcome
+unfolding lineFor lace.decodeOutcome
 long-line line h = rw (lace-line, label-long 63 (length line) _ (omega arith) h)
 
 -- so is what is held of it

@@ -13,11 +13,10 @@ use Rattle.utf16.proofs.RoundTrip.{points-back, text-paired, length-toUnits}
 use Rattle.wire.specs.Bytes as wire
 use Rattle.wire.proofs.RoundTrip.{units-back, length-toBytes}
 use Rattle.scheme.specs.Coding.{decodeOutcome, textOf}
-use Rattle.scheme.specs.Naming.{defaultNumber, ownNumberNames, numberNames}
+use Rattle.scheme.specs.Naming.{rowOf, schemes, numberOf, firstWith, defaultNumber, ownNumberNames, numberNames}
 use Rattle.scheme.specs.declared.Scheme.the-variants.{Lace}
 use Rattle.scheme.specs.declared.Named.the-variants.{Known}
-use Rattle.scheme.proofs.SchemeFacts.{decoded-text}
-use Rattle.scheme.proofs.Capacity.{decoded-short}
+use Rattle.scheme.proofs.Coding.{decoded-text, decoded-short}
 use Rattle.firmware.specs.Answer.{answerOf, ifKnown, madeBy, pointsOf, bytesOf, inBytes, readBy, readOutcome, readText}
 use Rattle.report.specs.Lines.{pointsLine, refusedLine}
 use Rattle.bench_list.specs.Listing.{lineFor, schemeNumber, benchLine}
@@ -25,7 +24,7 @@ use Rattle.bench_list.specs.TextBytes.{TextBytes}
 
 -- the scheme that is asked for is LACE
 asks-lace : numberNames schemeNumber ≡ Known Lace
-unfolding numberNames ownNumberNames defaultNumber
+unfolding numberNames ownNumberNames defaultNumber firstWith schemes numberOf rowOf
 asks-lace = refl
 
 -- the bytes of a text

@@ -11,8 +11,7 @@ use Rattle.labels.specs.Tests.{labelTests}
 use Rattle.lace.specs.Answer as lace
 use Rattle.scheme.specs.Coding.{decodeOutcome, textOf}
 use Rattle.scheme.specs.declared.Scheme.the-variants.{Lace}
-use Rattle.scheme.proofs.SchemeFacts.{decoded-low}
-use Rattle.scheme.proofs.Capacity.{decoded-short}
+use Rattle.scheme.proofs.Coding.{decoded-short, decoded-low}
 use Rattle.report.specs.Lines.{refusedLine}
 use Rattle.report.proofs.DigitLaws.{digits-length, count-few}
 use Rattle.report.proofs.LineLaws.{number-length, refused-length}
@@ -37,7 +36,7 @@ small-if : (test : Bool) (k p : ℕ) (next : Outcome) → k < 16 → Small next 
 small-if test k p next h s = by-test Small test k p next (λ _ number position e. let q : k ≡ number = cc in omega arith) (λ _. s)
 
 small-number : (label : List ℕ) → Small (decodeOutcome Lace 63 label)
-unfolding decodeOutcome lace.decodeOutcome labelTests
+unfolding lace.decodeOutcome labelTests
 small-number label =
     small-if _ 1 _ _ (omega arith)
     (small-if _ 2 _ _ (omega arith)

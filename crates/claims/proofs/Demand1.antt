@@ -202,18 +202,18 @@ module _ (codes : List ℕ) (capacity : ℕ) (l : List ℕ)
       good-done _ refl (omega (arith, lace-laws.text-fits l)))))))
 
 scheme-encode : (s : Scheme) (text label : List ℕ) → Answers (encodeCodes s) (scheme.encodeOutcome s (length label) text) (scheme.labelOf s text) label
-unfolding encodeCodes scheme.encodeOutcome scheme.labelOf isOneOf
+unfolding encodeCodes isOneOf
 scheme-encode Altdude text label = answers _ (altdude-encoded _ _ _ refl refl refl (λ _. refl) refl)
 scheme-encode Lace text label = answers _ (lace-encoded _ _ _ refl refl refl (λ _. refl) refl)
 
 scheme-decode : (s : Scheme) (label text : List ℕ) → Answers (decodeCodes s) (scheme.decodeOutcome s (length text) label) (scheme.textOf s label) text
-unfolding decodeCodes scheme.decodeOutcome scheme.textOf isOneOf
+unfolding decodeCodes isOneOf
 scheme-decode Altdude label text = answers _ (altdude-decoded _ _ _ (λ _. refl) (λ _. refl) (λ _. refl) refl refl refl)
 scheme-decode Lace label text = answers _ (lace-decoded _ _ _ (λ _. refl) (λ _. refl) (λ _. refl) refl refl refl refl)
 
 -- a label that stands in an entry
 own-listed : (s : Scheme) (l : List ℕ) → 1 ≤ length l → length l ≤ 63 → Listed tableCodes (scheme.decodeOutcome s 63 l)
-unfolding tableCodes scheme.decodeOutcome isOneOf
+unfolding tableCodes isOneOf
 own-listed s l some short = by s
   where
     two : eqb (length l) 0 ≡ false
@@ -316,7 +316,7 @@ never-four units below paired =
 
 write-units : (s : Scheme) (capacity : ℕ) (units : List ℕ) → AllBelow 65536 units
     → Good writeCodes (writeUnits s capacity units) (scheme.labelOf s (utf16.toPoints units)) capacity
-unfolding writeUnits writeCodes isOneOf scheme.encodeOutcome scheme.labelOf
+unfolding writeUnits writeCodes isOneOf
 write-units Altdude capacity units below =
     good-if _ _ _ (λ _. refl) (λ paired. altdude-encoded _ _ _ refl refl refl (λ e. absurd (true-not-false e (never-four units below paired))) refl)
 write-units Lace capacity units below =
@@ -341,7 +341,7 @@ bytes-good (refused number position) text g room = good-refused number position 
 
 read-label : (s : Scheme) (room : ℕ) (label : List ℕ) → 252 ≤ room
     → Good readCodes (inBytes (bytesOf (scheme.textOf s label)) (scheme.decodeOutcome s 63 label)) (bytesOf (scheme.textOf s label)) room
-unfolding readCodes isOneOf scheme.decodeOutcome scheme.textOf
+unfolding readCodes isOneOf
 read-label Altdude room label h = bytes-good _ _ (altdude-decoded _ _ _ (λ _. refl) (λ _. refl) (λ _. refl) refl refl refl) h
 read-label Lace room label h = bytes-good _ _ (lace-decoded _ _ _ (λ _. refl) (λ _. refl) (λ _. refl) refl refl refl refl) h
 
@@ -361,7 +361,6 @@ tells most (refused k p) below some few = record {
 }
 
 pub demand1 : Demand1
-unfolding scheme.encodeOutcome scheme.labelOf scheme.decodeOutcome scheme.textOf
 demand1 = record {
   toUnits = to-units;
   toPoints = to-points;

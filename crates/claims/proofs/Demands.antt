@@ -1,18 +1,21 @@
--- Demands 2 and 3 hold: both schemes have the facts, and the C interface hands them on.
-use Rattle.altdude_facts.specs.Causes as altdude
-use Rattle.altdude_facts.proofs.SchemeFacts.{altdude-facts}
-use Rattle.lace_facts.specs.Causes as lace
-use Rattle.lace_facts.proofs.SchemeFacts.{lace-facts}
+-- Demands 2 and 3 hold: AltDUDE and LACE are faithful and have rules of form, and the C interface hands demand 2 on.
+use Rattle.altdude_facts.specs.Codec as altdude
+use Rattle.altdude_facts.proofs.Faithful.{altdude-faithful, altdude-ruled}
+use Rattle.lace_facts.specs.Codec as lace
+use Rattle.lace_facts.proofs.Faithful.{lace-faithful, lace-ruled}
 use Rattle.claims.specs.Demands.{Demand2, Demand3}
-use Rattle.claims.proofs.SchemeDemands.{demand2-of, demand3-of}
+use Rattle.claims.proofs.CodecDemands.{demand2-of, demand3-of}
 use Rattle.claims.proofs.Interface.{at-interface}
 
 pub demand2 : Demand2
 demand2 = record {
-  ofAltdude = demand2-of altdude.scheme altdude-facts;
-  ofLace = demand2-of lace.scheme lace-facts;
+  ofAltdude = demand2-of altdude.codec altdude-faithful;
+  ofLace = demand2-of lace.codec lace-faithful;
   atInterface = at-interface;
 }
 
 pub demand3 : Demand3
-demand3 = record { ofAltdude = demand3-of altdude.scheme altdude-facts; ofLace = demand3-of lace.scheme lace-facts }
+demand3 = record {
+  ofAltdude = demand3-of altdude.codec altdude-faithful _ altdude-ruled;
+  ofLace = demand3-of lace.codec lace-faithful _ lace-ruled;
+}

@@ -12,9 +12,10 @@ use Rattle.basis.specs.Rows.{AllBelow}
 use Rattle.basis.specs.Case.{SameButCase}
 use Rattle.basis.specs.Causes.{whole, placed, Absent, NoCause}
 use Rattle.basis.specs.Outcome.{Outcome, done, refused, refusedIf, bufferAfter}
-use Rattle.basis.specs.Scheme.{Writable}
+use Rattle.basis.specs.Codec.{Writable}
 use Rattle.basis.proofs.Tests.{by-lt, true-not-false, first-before}
 use Rattle.basis.proofs.Causes.{absent-first}
+use Rattle.basis.proofs.Codec.{decode-settled}
 use Rattle.basis.proofs.Outcome.{done-not-refused, done-count}
 use Rattle.utf16.specs.Points.{isText}
 use Rattle.utf16.specs.Units as utf16
@@ -22,22 +23,17 @@ use Rattle.utf16.specs.Causes.{UnpairedAt}
 use Rattle.utf16.proofs.RoundTrip as utf16-laws
 use Rattle.wire.specs.Bytes as wire
 use Rattle.wire.proofs.RoundTrip as wire-laws
-use Rattle.altdude.proofs.DecodeLaws as altdude-laws
-use Rattle.lace_facts.proofs.Label as lace-laws
 use Rattle.scheme.specs.Naming.{numberNames}
-use Rattle.scheme.specs.Coding.{decodeOutcome, labelOf, textOf}
-use Rattle.scheme.specs.Schemes.{schemeOf}
-use Rattle.scheme.proofs.Capacity.{decoded-short}
-use Rattle.scheme.proofs.SchemeFacts.{scheme-facts, same-decoding, same-label, same-text, writable-some, decoded-formed, decoded-writable, decoded-text}
+use Rattle.scheme.specs.Coding.{codecOf, decodeOutcome, labelOf, textOf}
+use Rattle.scheme.proofs.Coding.{faithful, label-case, label-some, writable-text, decoded-readable, decoded-writable, decoded-text, decoded-short}
 use Rattle.scheme.specs.declared.Scheme.{Scheme}
-use Rattle.scheme.specs.declared.Scheme.the-variants.{Altdude, Lace}
 use Rattle.scheme.specs.declared.Named.the-variants.{Known, Unknown}
 use Rattle.firmware.specs.Answer.{ifKnown, madeBy, pointsOf, bytesOf, writeOutcome, writtenLabel, inBytes, readBy, readOutcome, readText}
 use Rattle.firmware.specs.Causes.{bytesCauses, writeCauses}
 use Rattle.firmware.proofs.Counts.{bytes-few}
 use Rattle.firmware.proofs.Settled.{named-by, write-settled, read-settled}
 use Rattle.claims.specs.Demands.{WritesBytes, ReadsBytes, MayWrite, Demand2AtInterface}
-use Rattle.claims.proofs.SchemeDemands.{settled-leaves, text-is, spells, label-is-formed}
+use Rattle.claims.proofs.CodecDemands.{settled-leaves}
 
 -- a text, as bytes and back
 module _ (t : List ℕ) (text : isText t ≡ true) where
@@ -61,11 +57,11 @@ module _ (t : List ℕ) (text : isText t ≡ true) where
       true-not-false (rw units-of at (f .here)) (first-before (length (utf16.toUnits t)) (utf16.unpairedAt 0 (utf16.toUnits t)) i (rw e h))
 
   -- if it may be written under a scheme, so may its bytes
-  bytes-free : (s : Scheme) → length t ≤ 63 → Writable (schemeOf s) t → NoCause (bytesCauses s (bytesOf t))
+  bytes-free : (s : Scheme) → length t ≤ 63 → Writable (codecOf s) t → NoCause (bytesCauses s (bytesOf t))
   bytes-free s few w = (
     (λ p h. omega (arith, h .1, bytes-long)),
     (
-      (λ p h. omega (arith, h .1, bytes-long, utf16-laws.some-toUnits t, writable-some s t w)),
+      (λ p h. omega (arith, h .1, bytes-long, utf16-laws.some-toUnits t, writable-text s t w .some)),
       (
         (λ p h. omega (arith, h .1, bytes-few t few)),
         (paired, rw points-of w),
@@ -113,18 +109,17 @@ module _ (number : ℕ) (few : number ≤ 2) (s : Scheme) (known : numberNames n
       let text = decoded-text s 63 _ l e in
       let b : bytes ≡ bytesOf (textOf s l) = sym (r .leaves) ∙ rw (r .answers, text-is-read, d .1) (take-append-seam (bytesOf (textOf s l)) _) in (
         ((λ p h. omega (arith, h .1)), rw (known, b) (bytes-free (textOf s l) text s (decoded-short s 63 _ l e) (decoded-writable s 63 _ l e))),
-        rw (label-is, b, points-of (textOf s l) text, same-label s) (spells (schemeOf s) (scheme-facts s) l (textOf s l) (decoded-formed s 63 _ l e) (rw (same-text s))),
+        rw (label-is, b, points-of (textOf s l) text) (label-case s _ l .0 (faithful s .respelled l (decoded-readable s 63 _ l e))),
       )
 
   writable-read : AllBelow 256 bytes → MayWrite number bytes × SameButCase (writtenLabel number bytes) l → ReadsBytes number buffer l bytes
   unfolding bufferAfter inBytes
   writable-read below p =
       let free : NoCause (bytesCauses s bytes) = rw known at (p .0 .1) in
-      let w : Writable (schemeOf s) (pointsOf bytes) = free .1 .1 .1 .1 in
-      let same : SameButCase (schemeOf s .labelOf (pointsOf bytes)) l = rw (label-is, same-label s) at (p .1) in
-      let f = label-is-formed (schemeOf s) (scheme-facts s) (pointsOf bytes) l w same in
-      let e : bytesOf (textOf s l) ≡ bytes = rw (same-text s, text-is (schemeOf s) (scheme-facts s) (pointsOf bytes) l w same) (bytes-back s bytes below free) in
-      let d : decodeOutcome s 63 l ≡ done (length (schemeOf s .textOf l)) = rw (same-decoding s) (scheme-facts s .formed 63 l (omega arith) .1 f) in
+      let w : Writable (codecOf s) (pointsOf bytes) = free .1 .1 .1 .1 in
+      let same = label-case s (labelOf s (pointsOf bytes)) l .1 (rw label-is at (p .1)) in
+      let e : bytesOf (textOf s l) ≡ bytes = rw (faithful s .text-is (pointsOf bytes) l w same) (bytes-back s bytes below free) in
+      let d : decodeOutcome s 63 l ≡ done (length (textOf s l)) = decode-settled (codecOf s) (faithful s) 63 l (omega arith) .succeeds _ .1 (faithful s .readable (pointsOf bytes) l w same, refl) in
       let o : readOutcome number (length buffer) l ≡ done (length bytes) = reads-is ∙ rw (d, e) in
       record { count = length bytes; answers = o; leaves = rw (o, text-is-read, e) (take-append-seam bytes _) }
 
@@ -161,15 +156,7 @@ writes-label number buffer bytes l room =
     let s = settled-leaves (writtenLabel number bytes) buffer l (write-settled number (length buffer) bytes) in
     (λ r. let q = s .0 r in (free-may number (length buffer) bytes (q .0), q .1), λ p. s .1 (may-free number (length buffer) bytes room (p .0), p .1))
 
--- the label of a text that may be written has a byte or more, since the text has a point or more
-label-some : (s : Scheme) (t : List ℕ) → Writable (schemeOf s) t → 1 ≤ length (schemeOf s .labelOf t)
-label-some s t w = omega (arith, ap length (scheme-facts s .text-back t w), text-fits s (schemeOf s .labelOf t), writable-some s t w)
-  where
-    text-fits : (s : Scheme) (l : List ℕ) → length (schemeOf s .textOf l) ≤ length l
-    text-fits Altdude l = altdude-laws.text-fits l
-    text-fits Lace l = lace-laws.text-fits l
-
--- so the counts of both functions are 1 or more
+-- the counts of both functions are 1 or more
 pub written-some : (number capacity : ℕ) (bytes : List ℕ) (n : ℕ) → writeOutcome number capacity bytes ≡ done n → 1 ≤ n
 unfolding writtenLabel madeBy
 written-some number capacity bytes n e =
@@ -179,7 +166,7 @@ written-some number capacity bytes n e =
     (λ many u. absurd (may .0 0 (refl, many)))
     (λ few s k.
     let free : NoCause (bytesCauses s bytes) = rw k at (may .1) in
-    let is : n ≡ length (schemeOf s .labelOf (pointsOf bytes)) = q .1 ∙ rw (k, same-label s) in
+    let is : n ≡ length (labelOf s (pointsOf bytes)) = q .1 ∙ rw k in
     omega (arith, is, label-some s (pointsOf bytes) (free .1 .1 .1 .1)))
 
 pub read-some : (number capacity : ℕ) (l : List ℕ) (n : ℕ) → readOutcome number capacity l ≡ done n → 1 ≤ n
@@ -189,11 +176,11 @@ read-some number capacity l n e =
     named-by number
     (λ many u. absurd (q .0 .0 0 (refl, many)))
     (λ few s k.
-    let free : NoCause (whole 1 (capacity < 252) ∷ schemeOf s .labelCauses l) = rw k at (q .0 .1) in
-    let d : decodeOutcome s 63 l ≡ done (length (schemeOf s .textOf l)) = rw (same-decoding s) (scheme-facts s .decoding 63 l .succeeds _ .1 (((λ p h. omega (arith, h .1)), free .1), refl)) in
+    let free : NoCause (whole 1 (capacity < 252) ∷ codecOf s .labelCauses l) = rw k at (q .0 .1) in
     let t = textOf s l in
+    let w = writable-text s t (faithful s .writable l (free .1)) in
     let is : n ≡ length (bytesOf t) = q .1 ∙ rw k in
-    omega (arith, is, bytes-long t (decoded-text s 63 _ l d), utf16-laws.some-toUnits t, writable-some s t (decoded-writable s 63 _ l d)))
+    omega (arith, is, bytes-long t (w .text), utf16-laws.some-toUnits t, w .some))
 
 pub at-interface : Demand2AtInterface
 at-interface = record {

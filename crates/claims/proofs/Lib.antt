@@ -1,5 +1,5 @@
 -- The proofs of the claims, which cite the crates below.
-pub mod SchemeDemands
+pub mod CodecDemands
 pub mod Interface
 pub mod Demand1
 pub mod Demands

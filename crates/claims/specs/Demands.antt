@@ -1,5 +1,5 @@
--- Demands 2 and 3: what they say of a scheme, and that of both; and demand 2 at the C interface. The schemes are made of the definitions
--- that the contracts cite, in the specs/Causes.antt of altdude_facts and of lace_facts.
+-- Demands 2 and 3: what they say of a codec, and that of AltDUDE and LACE; and demand 2 at the C interface. The codecs are made of the
+-- definitions that the contracts cite, in the specs/Codec.antt of altdude_facts and of lace_facts.
 use Prim.Native.Nat.{ℕ, _≤_, _<_}
 use mathlib.Core.Path.{_≡_}
 use mathlib.Core.Logic.{_↔_}
@@ -9,9 +9,11 @@ use Rattle.basis.specs.Rows.{AllBelow}
 use Rattle.basis.specs.Case.{SameButCase}
 use Rattle.basis.specs.Causes.{whole, NoCause, Settles}
 use Rattle.basis.specs.Outcome.{Outcome, done, bufferAfter}
-use Rattle.basis.specs.Scheme.{Scheme, Writable}
-use Rattle.altdude_facts.specs.Causes as altdude
-use Rattle.lace_facts.specs.Causes as lace
+use Rattle.basis.specs.Codec.{Codec, Writable}
+use Rattle.altdude_facts.specs.WellFormed as altdude-form
+use Rattle.altdude_facts.specs.Codec as altdude
+use Rattle.lace_facts.specs.WellFormed as lace-form
+use Rattle.lace_facts.specs.Codec as lace
 use Rattle.scheme.specs.Naming.{numberNames}
 use Rattle.firmware.specs.Answer.{writeOutcome, writtenLabel, readOutcome, readText}
 use Rattle.firmware.specs.Causes.{UnknownNumber, causesBy, bytesCauses, writeCauses, readCauses}
@@ -22,39 +24,44 @@ pub record Leaves (outcome : Outcome) (values buffer row : List ℕ) : Type 0 wh
   pub answers : outcome ≡ done count
   pub leaves : take count (bufferAfter outcome values buffer) ≡ row
 
-module _ (s : Scheme) where
+module _ (c : Codec) where
   -- decoding the bytes l into the buffer answers
   abbrev pub Accepts : List ℕ → List ℕ → Type 0
-  Accepts buffer l = (count : ℕ) × (s .decodeOutcome (length buffer) l ≡ done count)
+  Accepts buffer l = (count : ℕ) × (c .decodeOutcome (length buffer) l ≡ done count)
 
   -- encoding the text t into the buffer answers, and leaves the label l before its count
   abbrev pub Writes : List ℕ → List ℕ → List ℕ → Type 0
-  Writes buffer t l = Leaves (s .encodeOutcome (length buffer) t) (s .labelOf t) buffer l
+  Writes buffer t l = Leaves (c .encodeOutcome (length buffer) t) (c .labelOf t) buffer l
 
   -- decoding the bytes l into the buffer answers, and leaves the text t before its count
   abbrev pub Reads : List ℕ → List ℕ → List ℕ → Type 0
-  Reads buffer l t = Leaves (s .decodeOutcome (length buffer) l) (s .textOf l) buffer t
+  Reads buffer l t = Leaves (c .decodeOutcome (length buffer) l) (c .textOf l) buffer t
 
   -- demand 2: each refusal exactly as the first of its causes says, 1 for a capacity under 63 before all others, and the
   -- label's or the text's length otherwise; encoding leaves a label exactly when the text may be written and this is its label;
-  -- decoding leaves a text exactly when it may be written and its label is these bytes but for case
+  -- decoding leaves a text exactly when it may be written and its label is the same as these bytes in the codec's sense
   pub record Demand2Of : Type 0 where
-    pub encoding : (capacity : ℕ) (t : List ℕ) → Settles (whole 1 (capacity < 63) ∷ s .textCauses t) (length (s .labelOf t)) (s .encodeOutcome capacity t)
-    pub decoding : (capacity : ℕ) (l : List ℕ) → Settles (whole 1 (capacity < 63) ∷ s .labelCauses l) (length (s .textOf l)) (s .decodeOutcome capacity l)
-    pub writing : (buffer t l : List ℕ) → 63 ≤ length buffer → Writes buffer t l ↔ (Writable s t × (l ≡ s .labelOf t))
-    pub reading : (buffer l t : List ℕ) → 63 ≤ length buffer → Reads buffer l t ↔ (Writable s t × SameButCase (s .labelOf t) l)
+    pub encoding : (capacity : ℕ) (t : List ℕ) → Settles (whole 1 (capacity < 63) ∷ c .textCauses t) (length (c .labelOf t)) (c .encodeOutcome capacity t)
+    pub decoding : (capacity : ℕ) (l : List ℕ) → Settles (whole 1 (capacity < 63) ∷ c .labelCauses l) (length (c .textOf l)) (c .decodeOutcome capacity l)
+    pub writing : (buffer t l : List ℕ) → 63 ≤ length buffer → Writes buffer t l ↔ (Writable c t × (l ≡ c .labelOf t))
+    pub reading : (buffer l t : List ℕ) → 63 ≤ length buffer → Reads buffer l t ↔ (Writable c t × c .SameLabel (c .labelOf t) l)
 
-  -- demand 3, for every buffer of 63 elements or more
-  pub record Demand3Of : Type 0 where
+  -- demand 3's last clause: two accepted labels read alike, in the codec's sense, exactly when they differ at most in the case of A to Z
+  abbrev pub AlikeOf : Type 0
+  AlikeOf =
+      (buffer other l k t u : List ℕ) → 63 ≤ length buffer → 63 ≤ length other → Reads buffer l t → Reads other k u
+      → c .SameText t u ↔ SameButCase l k
+
+  -- demand 3, of a codec with rules of form, for every buffer of 63 elements or more
+  pub record Demand3Of (WellFormed : List ℕ → Type 0) : Type 0 where
     -- bytes are accepted exactly when they are well formed
-    pub accepted : (buffer l : List ℕ) → 63 ≤ length buffer → Accepts buffer l ↔ s .WellFormed l
+    pub accepted : (buffer l : List ℕ) → 63 ≤ length buffer → Accepts buffer l ↔ WellFormed l
     -- a well-formed label has a text that may be written, which decoding leaves, answering the number of its points
-    pub exists : (buffer l : List ℕ) → 63 ≤ length buffer → s .WellFormed l
-        → (t : List ℕ) × Writable s t × SameButCase (s .labelOf t) l × Reads buffer l t × (s .decodeOutcome (length buffer) l ≡ done (length t))
+    pub exists : (buffer l : List ℕ) → 63 ≤ length buffer → WellFormed l
+        → (t : List ℕ) × Writable c t × c .SameLabel (c .labelOf t) l × Reads buffer l t × (c .decodeOutcome (length buffer) l ≡ done (length t))
     -- and no other, among all lists of numbers
-    pub unique : (l t u : List ℕ) → s .WellFormed l → Writable s t → SameButCase (s .labelOf t) l → Writable s u → SameButCase (s .labelOf u) l → t ≡ u
-    -- two accepted labels read alike exactly when they differ at most in the case of A to Z
-    pub alike : (buffer other l k t u : List ℕ) → 63 ≤ length buffer → 63 ≤ length other → Reads buffer l t → Reads other k u → (t ≡ u) ↔ SameButCase l k
+    pub unique : (l t u : List ℕ) → WellFormed l → Writable c t → c .SameLabel (c .labelOf t) l → Writable c u → c .SameLabel (c .labelOf u) l → c .SameText t u
+    pub alike : AlikeOf
 
 -- the C interface: writing the bytes of a text under a number into the buffer answers, and leaves the label l before its count
 abbrev pub WritesBytes : ℕ → List ℕ → List ℕ → List ℕ → Type 0
@@ -76,13 +83,13 @@ pub record Demand2AtInterface : Type 0 where
   pub reading : (number : ℕ) (buffer l bytes : List ℕ) → 252 ≤ length buffer → AllBelow 256 bytes
       → ReadsBytes number buffer l bytes ↔ (MayWrite number bytes × SameButCase (writtenLabel number bytes) l)
 
--- demand 2 of both schemes, and carried to the C interface
+-- demand 2 of AltDUDE and LACE, and carried to the C interface
 pub record Demand2 : Type 0 where
-  pub ofAltdude : Demand2Of altdude.scheme
-  pub ofLace : Demand2Of lace.scheme
+  pub ofAltdude : Demand2Of altdude.codec
+  pub ofLace : Demand2Of lace.codec
   pub atInterface : Demand2AtInterface
 
--- demand 3 of both schemes
+-- demand 3 of AltDUDE and LACE
 pub record Demand3 : Type 0 where
-  pub ofAltdude : Demand3Of altdude.scheme
-  pub ofLace : Demand3Of lace.scheme
+  pub ofAltdude : Demand3Of altdude.codec altdude-form.WellFormed
+  pub ofLace : Demand3Of lace.codec lace-form.WellFormed

@@ -15,8 +15,7 @@ use Rattle.wire.specs.Answer.{isOdd}
 use Rattle.wire.proofs.RoundTrip as wire-laws
 use Rattle.scheme.specs.Naming.{numberNames}
 use Rattle.scheme.specs.Coding.{encodeOutcome, decodeOutcome, textOf}
-use Rattle.scheme.proofs.Capacity.{decoded-short}
-use Rattle.scheme.proofs.SchemeFacts.{encoded-short}
+use Rattle.scheme.proofs.Coding.{encoded-short, decoded-short}
 use Rattle.scheme.specs.declared.Scheme.{Scheme}
 use Rattle.scheme.specs.declared.Named.{Named}
 use Rattle.scheme.specs.declared.Named.the-variants.{Known, Unknown}

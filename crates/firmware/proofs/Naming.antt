@@ -2,7 +2,7 @@
 use Prim.Native.Nat.{ℕ}
 use mathlib.Core.Path.{_≡_}
 use mathlib.Core.List.{List}
-use Rattle.basis.specs.Outcome.{Outcome, numberOf, bytesOutcome, bufferAfter}
+use Rattle.basis.specs.Outcome.{Outcome, bytesOutcome, bufferAfter}
 use Rattle.basis.specs.declared.ErrorCode.the-variants.{UnknownScheme}
 use Rattle.basis.specs.declared.BytesAnswer.{BytesAnswer}
 use Rattle.basis.specs.declared.BytesAnswer.the-variants.{Error}
@@ -15,7 +15,7 @@ use Rattle.firmware.specs.Answer.{ifKnown, madeBy}
 -- an unknown number is told, and leaves the buffer
 module _ (number : ℕ) (outcome : Scheme → Outcome) {named : Named} where
   pub unknown-answered : {answer : BytesAnswer} → named ≡ numberNames number → named ≡ Unknown → answer ≡ Error UnknownScheme 0 → bytesOutcome answer ≡ ifKnown (numberNames number) outcome
-  unfolding bytesOutcome numberOf ifKnown
+  unfolding bytesOutcome ifKnown
   unknown-answered names unknown a = rw (a, ← names, unknown)
 
   pub unknown-left : (values buffer : List ℕ) → named ≡ numberNames number → named ≡ Unknown → buffer ≡ bufferAfter (ifKnown (numberNames number) outcome) values buffer

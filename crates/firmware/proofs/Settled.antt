@@ -11,14 +11,14 @@ use Rattle.basis.specs.Outcome.{Outcome, done, refused, refusedIf}
 use Rattle.basis.specs.Causes.{Cause, whole, Settles}
 use Rattle.basis.proofs.Tests.{by-lt, ltb-iff, eqb-iff}
 use Rattle.basis.proofs.Outcome.{done-not-refused}
-use Rattle.basis.proofs.Causes.{settle-without, settle-whole, settle-first}
+use Rattle.basis.proofs.Causes.{settle-whole, settle-first}
+use Rattle.basis.proofs.Codec.{encode-settled, decode-settled}
 use Rattle.utf16.specs.Units.{unpairedAt, firstUnpaired}
 use Rattle.wire.specs.Bytes.{toUnits}
 use Rattle.wire.specs.Answer.{isOdd}
-use Rattle.scheme.specs.Naming.{defaultNumber, ownNumberNames, numberNames}
-use Rattle.scheme.specs.Coding.{encodeOutcome, labelOf, textOf}
-use Rattle.scheme.specs.Schemes.{schemeOf}
-use Rattle.scheme.proofs.SchemeFacts.{scheme-facts, same-encoding, same-decoding, same-label}
+use Rattle.scheme.specs.Naming.{rowOf, schemes, numberOf, firstWith, defaultNumber, ownNumberNames, numberNames}
+use Rattle.scheme.specs.Coding.{codecOf, labelOf, textOf}
+use Rattle.scheme.proofs.Coding.{faithful}
 use Rattle.scheme.specs.declared.Scheme.{Scheme}
 use Rattle.scheme.specs.declared.Scheme.the-variants.{Altdude, Lace}
 use Rattle.scheme.specs.declared.Named.the-variants.{Known, Unknown}
@@ -39,7 +39,7 @@ settle-counted bytes count (done m) s = record {
 
 -- a number above 2 names no scheme, the others name one
 pub named-by : {A : Type 0} (number : ℕ) → (2 < number → numberNames number ≡ Unknown → A) → (number ≤ 2 → (s : Scheme) → numberNames number ≡ Known s → A) → A
-unfolding numberNames ownNumberNames defaultNumber
+unfolding numberNames ownNumberNames defaultNumber firstWith schemes numberOf rowOf
 named-by number unknown known =
     by-lt 2 number
     (λ h. unknown h (rw (ne-eqb number 0 (λ e. omega arith), ne-eqb number 1 (λ e. omega arith), ne-eqb number 2 (λ e. omega arith))))
@@ -59,10 +59,6 @@ module _ (causes : Scheme → List Cause) (outcome : Scheme → Outcome) (made :
       (λ h e. rw e (settle-whole true 11 {next = done 0} (λ _. h, λ _. refl) (λ f. absurd (let z : _≡_ {A = ℕ} 0 1 = cc in omega arith))))
       (λ h s e. rw e (settle-whole false 11 (λ f. absurd (let z : _≡_ {A = ℕ} 0 1 = cc in omega arith), λ g. absurd (omega arith)) (λ _. settled s)))
 
-encode-settled : (s : Scheme) (capacity : ℕ) (t : List ℕ) → 63 ≤ capacity → Settles (schemeOf s .textCauses t) (length (labelOf s t)) (encodeOutcome s capacity t)
-encode-settled s capacity t room =
-    rw (same-encoding s, same-label s) (settle-without (whole 1 (capacity < 63)) (λ p h. omega (arith, h .1)) (scheme-facts s .encoding capacity t))
-
 write-by-settled : (capacity : ℕ) (bytes : List ℕ) (s : Scheme)
     → Settles (whole 1 (capacity < 63) ∷ bytesCauses s bytes) (length (labelOf s (pointsOf bytes))) (writeBy s capacity bytes)
 unfolding writeBy writeUnits firstUnpaired isOdd pointsOf
@@ -72,18 +68,18 @@ write-by-settled capacity bytes s =
     (λ _. settle-whole (eqb (length bytes) 0) 2 (eqb-iff _ 0)
     (λ _. settle-whole (ltb 252 (length bytes)) 3 (ltb-iff 252 (length bytes))
     (λ _. settle-first (length (toUnits bytes)) (unpairedAt 0 (toUnits bytes)) 10
-    (λ _. encode-settled s capacity (pointsOf bytes) (ltb-false capacity 63 room))))))
+    (λ _. encode-settled (codecOf s) (faithful s) capacity (pointsOf bytes) (ltb-false capacity 63 room))))))
 
 pub write-settled : (number capacity : ℕ) (bytes : List ℕ) → Settles (writeCauses number capacity bytes) (length (writtenLabel number bytes)) (writeOutcome number capacity bytes)
 unfolding writeOutcome writtenLabel
 write-settled number capacity bytes = named-settled _ _ _ (write-by-settled capacity bytes) number
 
 read-by-settled : (capacity : ℕ) (label : List ℕ) (s : Scheme)
-    → Settles (whole 1 (capacity < 252) ∷ schemeOf s .labelCauses label) (length (bytesOf (textOf s label))) (readBy s capacity label)
+    → Settles (whole 1 (capacity < 252) ∷ codecOf s .labelCauses label) (length (bytesOf (textOf s label))) (readBy s capacity label)
 unfolding readBy
 read-by-settled capacity label s =
     settle-whole (ltb capacity 252) 1 (ltb-iff capacity 252)
-    (λ _. settle-counted _ (length (schemeOf s .textOf label)) _ (rw (same-decoding s) (settle-without (whole 1 (63 < 63)) (λ p h. omega (arith, h .1)) (scheme-facts s .decoding 63 label))))
+    (λ _. settle-counted _ (length (textOf s label)) _ (decode-settled (codecOf s) (faithful s) 63 label (omega arith)))
 
 pub read-settled : (number capacity : ℕ) (label : List ℕ) → Settles (readCauses number capacity label) (length (readText number label)) (readOutcome number capacity label)
 unfolding readOutcome readText

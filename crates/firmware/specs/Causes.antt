@@ -8,7 +8,7 @@ use Rattle.utf16.specs.Causes.{UnpairedAt}
 use Rattle.labels.specs.Causes.{Empty}
 use Rattle.wire.specs.Bytes.{toUnits}
 use Rattle.scheme.specs.Naming.{numberNames}
-use Rattle.scheme.specs.Schemes.{schemeOf}
+use Rattle.scheme.specs.Coding.{codecOf}
 use Rattle.scheme.specs.declared.Scheme.{Scheme}
 use Rattle.scheme.specs.declared.Named.{Named}
 use Rattle.scheme.specs.declared.Named.the-variants.{Known, Unknown}
@@ -34,7 +34,7 @@ causesBy (Known s) causes = causes s
 -- against writing a text of bytes under a scheme, room aside, in order: 12, 2, 3, 10, then the scheme's
 abbrev pub bytesCauses : Scheme → List ℕ → List Cause
 bytesCauses s bytes =
-    whole 12 (OddBytes bytes) ∷ whole 2 (Empty bytes) ∷ whole 3 (TextTooLong bytes) ∷ placed 10 (UnpairedAt (toUnits bytes)) ∷ schemeOf s .textCauses (pointsOf bytes)
+    whole 12 (OddBytes bytes) ∷ whole 2 (Empty bytes) ∷ whole 3 (TextTooLong bytes) ∷ placed 10 (UnpairedAt (toUnits bytes)) ∷ codecOf s .textCauses (pointsOf bytes)
 
 -- against writing: 11, 1, then the above
 abbrev pub writeCauses : ℕ → ℕ → List ℕ → List Cause
@@ -42,4 +42,4 @@ writeCauses number capacity bytes = whole 11 (UnknownNumber number) ∷ causesBy
 
 -- against reading: 11, then the scheme's, with 1 for a capacity under 252 bytes
 abbrev pub readCauses : ℕ → ℕ → List ℕ → List Cause
-readCauses number capacity label = whole 11 (UnknownNumber number) ∷ causesBy (numberNames number) (λ s. whole 1 (capacity < 252) ∷ schemeOf s .labelCauses label)
+readCauses number capacity label = whole 11 (UnknownNumber number) ∷ causesBy (numberNames number) (λ s. whole 1 (capacity < 252) ∷ codecOf s .labelCauses label)

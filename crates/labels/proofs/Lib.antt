@@ -1,2 +1,3 @@
--- The laws on the first tests.
+-- The laws on the first tests, and on the shared causes.
 pub mod FirstTests
+pub mod Causes

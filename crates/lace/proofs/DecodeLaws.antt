@@ -232,7 +232,7 @@ otherCodes = 0 ∷ 1 ∷ 2 ∷ 3 ∷ 4 ∷ 5 ∷ 7 ∷ 8 ∷ 9 ∷ 10 ∷ 11 ∷
 
 pub other-error : (code : ErrorCode) (position : ℕ) → OneOf otherCodes (tagOf the-type code) → (r : PointsAnswer) → r ≡ Error NotWellFormed 0
     → pointsOutcome r ≡ errorAfterPrefix (numberOf code) position
-unfolding pointsOutcome numberOf errorAfterPrefix
+unfolding pointsOutcome errorAfterPrefix
 other-error code position o r e =
     let t : tagOf the-type code ≡ 6 → ⊥ = λ q. miss otherCodes 6 tt (rw q at o) in
     ap pointsOutcome e ∙ sym (rw (ne-eqb (numberOf code) 7 (λ q. t (omega (arith, number-place code .0)))))

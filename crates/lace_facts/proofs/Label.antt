@@ -14,7 +14,7 @@ use Rattle.basis.specs.Case.{small}
 use Rattle.basis.proofs.Tests.{both-left, both-right, both-true, at-each, none-iff, each-at, first-before, first-none}
 use Rattle.basis.proofs.Lists.{map-same, length-tabulate, at-tabulate, row-below}
 use Rattle.basis.proofs.Case.{small-small}
-use Rattle.utf16.specs.Units.{toPoints, unpairedAt, firstUnpaired}
+use Rattle.utf16.specs.Units.{unpairedAt, firstUnpaired}
 use Rattle.utf16.proofs.RoundTrip.{length-toPoints}
 use Rattle.base32.specs.Alphabet.{lace, valueOf, isCharacter, valuesOf}
 use Rattle.base32.specs.Bits.{bitOf, rowBit, group, regroup}
@@ -46,7 +46,7 @@ outside-small : (cs : List ℕ) → firstOutside lace (map small cs) ≡ firstOu
 unfolding firstOutside isCharacter
 outside-small cs = simp (length-map, at-small, value-small)
 
--- so do the octets, the units and the text of a label, and the test of it
+-- so do the octets and the units of a label, and the test of it
 octets-small : (l : List ℕ) → labelOctets (map small l) ≡ labelOctets l
 unfolding labelOctets
 octets-small l = ap toOctets (ap (valuesOf lace) (after-small l) ∙ values-small (afterPrefix l))
@@ -54,10 +54,6 @@ octets-small l = ap toOctets (ap (valuesOf lace) (after-small l) ∙ values-smal
 units-small : (l : List ℕ) → labelUnits (map small l) ≡ labelUnits l
 unfolding labelUnits
 units-small l = ap unitsOf (octets-small l)
-
-pub text-small : (l : List ℕ) → textOf (map small l) ≡ textOf l
-unfolding textOf
-text-small l = ap toPoints (units-small l)
 
 readable-small : (l : List ℕ) → isReadable (map small l) ≡ isReadable l
 unfolding isReadable

@@ -6,4 +6,4 @@ pub mod StandFor
 pub mod Label
 pub mod Reserved
 pub mod Settled
-pub mod SchemeFacts
+pub mod Faithful

@@ -1,4 +1,4 @@
--- The causes of refusal, each by itself, and LACE as a scheme.
+-- The causes of refusal, each by itself.
 use Prim.Native.Nat.{ℕ, _+_, _<_}
 use mathlib.Core.Path.{_≡_}
 use mathlib.Core.Bool.{true}
@@ -6,7 +6,6 @@ use mathlib.Core.List.{List, [], _∷_}
 use Rattle.basis.specs.Rows.{at}
 use Rattle.basis.specs.Case.{small}
 use Rattle.basis.specs.Causes.{Cause, whole, placed}
-use Rattle.basis.specs.Scheme.{Scheme}
 use Rattle.labels.specs.Causes.{TooLong}
 use Rattle.labels.specs.Causes as labels
 use Rattle.base32.specs.Alphabet.{lace}
@@ -14,9 +13,7 @@ use Rattle.base32.specs.Causes.{OutsideAt}
 use Rattle.lace.specs.Prefix.{prefix, afterPrefix}
 use Rattle.lace.specs.Octets.{isAllLdh}
 use Rattle.lace.specs.Encoding.{labelOf}
-use Rattle.lace_facts.specs.WellFormed.{Formed, WellFormed}
-use Rattle.lace.specs.Decoding.{textOf}
-use Rattle.lace.specs.Answer.{encodeOutcome, decodeOutcome}
+use Rattle.lace_facts.specs.WellFormed.{Formed}
 
 -- 8: the prefix is missing
 abbrev pub NoPrefix : List ℕ → Type 0
@@ -42,15 +39,3 @@ textCauses t = labels.textCauses t (whole 6 (isAllLdh t ≡ true) ∷ whole 3 (T
 abbrev pub labelCauses : List ℕ → List Cause
 labelCauses l =
     labels.labelCauses l (whole 8 (NoPrefix l) ∷ placed 7 (OutsideAfterPrefix l) ∷ whole 9 (NotFormed l) ∷ whole 6 (OnlyAllLdh l) ∷ [])
-
--- LACE as a scheme, of which the demands speak
-abbrev pub scheme : Scheme
-scheme = record {
-  encodeOutcome = encodeOutcome isAllLdh;
-  decodeOutcome = decodeOutcome isAllLdh;
-  labelOf = labelOf;
-  textOf = textOf;
-  textCauses = textCauses;
-  labelCauses = labelCauses;
-  WellFormed = WellFormed;
-}

@@ -1,3 +1,4 @@
--- LACE's rules of form, and the causes of its refusals.
+-- LACE's rules of form, the causes of its refusals, and its codec.
 pub mod WellFormed
 pub mod Causes
+pub mod Codec

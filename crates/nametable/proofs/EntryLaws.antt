@@ -1,6 +1,6 @@
 -- Laws on one entry: each test answers in its turn, and what a good entry holds.
 use Prim.Native.Nat.{ℕ, zero, suc, _+_, _-_, _≤_, _<_}
-use mathlib.Core.Path.{_≡_, refl, sym, ap, _∙_}
+use mathlib.Core.Path.{_≡_, refl, sym, _∙_}
 use mathlib.Core.Bool.{Bool, true, false, not}
 use mathlib.Core.List.{List}
 use lib.Dec.{eqb}
@@ -13,16 +13,17 @@ use Rattle.basis.specs.Rows.{at}
 use Rattle.basis.specs.Outcome.{Outcome, done, refused, refusedIf}
 use Rattle.basis.proofs.Tests.{within-true, within-high}
 use Rattle.basis.proofs.Outcome.{passed}
+use Rattle.basis.proofs.Codec.{decode-settled}
 use Rattle.basis.specs.declared.ErrorCode.{ErrorCode}
 use Rattle.utf16.specs.Answer.{pointsOutcome}
 use Rattle.utf16.specs.declared.PointCount.{PointCount}
 use Rattle.utf16.specs.declared.PointsAnswer.{PointsAnswer}
 use Rattle.utf16.specs.declared.PointsAnswer.the-variants as points
 use Rattle.scheme.specs.Naming.{kindNames}
-use Rattle.scheme.specs.Coding.{decodeOutcome, textOf}
+use Rattle.scheme.specs.Coding.{codecOf, decodeOutcome, textOf}
 use Rattle.scheme.specs.declared.Scheme.{Scheme}
 use Rattle.scheme.specs.declared.Named.the-variants.{Known, Unknown}
-use Rattle.scheme.proofs.Capacity.{same-capacity, decoded-count}
+use Rattle.scheme.proofs.Coding.{faithful, decoded-readable}
 use Rattle.nametable.specs.Format.{entryLength, labelCapacity, labelStart, numberAt, kindOf, readerOf, lengthOf, labelIn, isFilled, schemeNamed, schemeIn}
 use Rattle.nametable.specs.Answer.{isKnown, labelJudged, entryJudged}
 use Rattle.nametable.specs.Stepping.{judgedOutcome, Good}
@@ -138,6 +139,6 @@ module _ (e : List ℕ) (good : Good e) where
   good-short = good-holds .short
 
   pub good-decodes : (capacity : ℕ) → 63 ≤ capacity → decodeOutcome (schemeIn e) capacity (labelIn e) ≡ done (length (textOf (schemeIn e) (labelIn e)))
-  good-decodes capacity h =
-      let d = good-holds .decodes in
-      same-capacity (schemeIn e) capacity (labelIn e) h ∙ d ∙ ap done (decoded-count (schemeIn e) labelCapacity _ (labelIn e) d)
+  good-decodes capacity room =
+      let s = schemeIn e in
+      decode-settled (codecOf s) (faithful s) capacity (labelIn e) room .succeeds _ .1 (decoded-readable s labelCapacity _ (labelIn e) (good-holds .decodes), refl)

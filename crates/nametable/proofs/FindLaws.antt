@@ -87,7 +87,7 @@ not-found-leaves o r values buffer code position a e = (rw (a, e), rw e)
 -- want of room, and an index not below the number of entries, by what the code tested: the answer, and the buffer as it was
 module _ (t : List ℕ) (index capacity : ℕ) where
   pub no-room-answered : {r : EntryAnswer} → capacity < 63 → r ≡ answer.Error Capacity 0 → entryOutcome r ≡ findOutcome t index capacity
-  unfolding entryOutcome basis.numberOf
+  unfolding entryOutcome
   no-room-answered h a = ap entryOutcome a ∙ sym (no-room t index capacity h)
 
   pub no-room-left : (values buffer : List ℕ) → capacity < 63 → buffer ≡ bufferAfter (counted (findOutcome t index capacity)) values buffer
@@ -101,7 +101,7 @@ module _ (t : List ℕ) (index capacity : ℕ) where
 
     pub no-entry-answered : {r : EntryAnswer} → 63 ≤ capacity → tableOutcome verdict ≡ readOutcome t → verdict ≡ table.Entries n → n ≤ index → r ≡ answer.Error Malformed 0
         → entryOutcome r ≡ findOutcome t index capacity
-    unfolding entryOutcome basis.numberOf
+    unfolding entryOutcome
     no-entry-answered room reads is h a = ap entryOutcome a ∙ sym (no-index room reads is h)
 
     pub no-entry-left : (values buffer : List ℕ) → 63 ≤ capacity → tableOutcome verdict ≡ readOutcome t → verdict ≡ table.Entries n → n ≤ index

@@ -11,14 +11,14 @@ use native.Mathlib.Omega.{arith}
 use Rattle.basis.specs.Tests.{every, within, firstBelow}
 use Rattle.basis.specs.Rows.{at}
 use Rattle.basis.specs.Outcome.{Outcome, done, refused, refusedIf}
-use Rattle.basis.specs.Causes.{whole, Settles}
+use Rattle.basis.specs.Causes.{Settles}
 use Rattle.basis.proofs.Tests.{cases, by-lt, true-not-false, ltb-iff, eqb-iff, fails-iff, within-true, within-below, within-above, none-iff, not-each, first-le, first-here}
-use Rattle.basis.proofs.Causes.{thenMoved, settle-done, settle-whole, settle-without, settle-moved}
-use Rattle.scheme.specs.Naming.{kindNames}
-use Rattle.scheme.specs.Coding.{decodeOutcome}
-use Rattle.scheme.specs.Schemes.{schemeOf}
-use Rattle.scheme.specs.declared.Scheme.{Scheme}
-use Rattle.scheme.proofs.SchemeFacts.{scheme-facts, same-decoding}
+use Rattle.basis.proofs.Causes.{thenMoved, settle-done, settle-whole, settle-moved}
+use Rattle.basis.proofs.Codec.{decode-settled}
+use Rattle.scheme.specs.Naming.{rowOf, schemes, firstWith, kindNames}
+use Rattle.scheme.specs.Naming as naming
+use Rattle.scheme.specs.Coding.{codecOf}
+use Rattle.scheme.proofs.Coding.{faithful}
 use Rattle.nametable.specs.Format.{headerKind, headerLength, mostEntries, entryLength, labelCapacity, labelStart, countOf, tableLength, kindOf, readerOf, lengthOf, labelIn, isFilled, schemeIn}
 use Rattle.nametable.specs.Answer.{isKnown, labelJudged, entryJudged, thenEntries, entriesJudged, readOutcome, entryText, entryIn, findOutcome, counted}
 use Rattle.nametable.specs.Causes.{UnknownKind, NotFilled, entryCauses, entriesCauses, tableCauses, findCauses}
@@ -26,7 +26,7 @@ use Rattle.nametable.proofs.TableLaws.{read-table}
 
 -- the tests that the causes are about
 unknown-iff : (e : List ℕ) → (not (isKnown (kindNames (kindOf e))) ≡ true) ↔ UnknownKind e
-unfolding isKnown kindNames
+unfolding isKnown kindNames firstWith schemes naming.kindOf rowOf
 unknown-iff e =
     cases (eqb (kindOf e) 0x41)
     (λ a. rw a (λ f. absurd (true-not-false f refl), λ u. absurd (u .0 (eqb-true _ _ a))))
@@ -64,18 +64,15 @@ unfolding thenEntries thenMoved
 entry-moved index (done n) next = refl
 entry-moved index (refused number position) next = refl
 
--- the label of an entry, for which there is room
-label-settled : (s : Scheme) (l : List ℕ) → Settles (schemeOf s .labelCauses l) (length (schemeOf s .textOf l)) (decodeOutcome s 63 l)
-label-settled s l = rw (same-decoding s) (settle-without (whole 1 (63 < 63)) (λ p h. omega (arith, h .1)) (scheme-facts s .decoding 63 l))
-
 entry-settled : (least : ℕ) (e : List ℕ) → Settles (entryCauses least e) (readerOf e) (entryJudged least e)
 unfolding entryJudged
 entry-settled least e =
+    let s = schemeIn e in
     settle-whole _ 14 (unknown-iff e)
     (λ _. settle-whole _ 14 (ltb-iff (readerOf e) least)
     (λ _. settle-whole _ 14 (outside-iff 1 labelCapacity (lengthOf e))
     (λ _. settle-whole _ 14 (unfilled-iff e)
-    (λ _. rw label-moved (settle-moved (λ _. 0) _ [] _ (readerOf e) _ (done (readerOf e)) (label-settled (schemeIn e) (labelIn e)) (λ _ _. settle-done (readerOf e)))))))
+    (λ _. rw label-moved (settle-moved (λ _. 0) _ [] _ (readerOf e) _ (done (readerOf e)) (decode-settled (codecOf s) (faithful s) labelCapacity (labelIn e) (omega arith)) (λ _ _. settle-done (readerOf e)))))))
 
 entries-settled : (index least left : ℕ) (bytes : List ℕ) (total : ℕ) → Settles (entriesCauses index least left bytes) total (entriesJudged index least left bytes total)
 unfolding entriesCauses entriesJudged

@@ -11,7 +11,7 @@ use Rattle.basis.proofs.Tests.{cases}
 use Rattle.basis.proofs.Outcome.{done-not-refused, done-count}
 use Rattle.scheme.specs.Naming.{numberOf}
 use Rattle.scheme.specs.Coding.{decodeOutcome}
-use Rattle.scheme.proofs.Capacity.{decoded-short}
+use Rattle.scheme.proofs.Coding.{decoded-short}
 use Rattle.nametable.specs.Format.{entryAt, readerOf, labelIn, schemeIn}
 use Rattle.nametable.specs.Answer.{readOutcome, found, entryText, entryIn, findOutcome, counted}
 use Rattle.nametable.proofs.EntryLaws.{good-decodes}

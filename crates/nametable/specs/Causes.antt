@@ -6,7 +6,7 @@ use mathlib.Core.List.{List, [], _∷_}
 use lib.ListN.{length, take, drop}
 use Rattle.basis.specs.Rows.{at}
 use Rattle.basis.specs.Causes.{Cause, whole, movedAll}
-use Rattle.scheme.specs.Schemes.{schemeOf}
+use Rattle.scheme.specs.Coding.{codecOf}
 use Rattle.nametable.specs.Format.{headerKind, headerLength, mostEntries, entryLength, labelCapacity, labelStart, countOf, tableLength, kindOf, readerOf, lengthOf, labelIn, schemeIn}
 
 -- the kind is neither AltDUDE's nor LACE's
@@ -25,7 +25,7 @@ NotFilled e = (i : ℕ) × (i < labelCapacity - lengthOf e) × (at e (labelStart
 abbrev pub entryCauses : ℕ → List ℕ → List Cause
 entryCauses least e =
     whole 14 (UnknownKind e) ∷ whole 14 (readerOf e < least) ∷ whole 14 (BadLength e) ∷ whole 14 (NotFilled e)
-    ∷ movedAll (λ _. 0) (schemeOf (schemeIn e) .labelCauses (labelIn e)) []
+    ∷ movedAll (λ _. 0) (codecOf (schemeIn e) .labelCauses (labelIn e)) []
 
 -- against the entries from an index on, so many, each at its index; the next reader number is to be one more at least
 unfoldable pub entriesCauses : ℕ → ℕ → ℕ → List ℕ → List Cause

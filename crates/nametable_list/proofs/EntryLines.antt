@@ -13,8 +13,7 @@ use Rattle.scheme.specs.Naming.{numberOf, letterOf}
 use Rattle.scheme.specs.Coding.{textOf}
 use Rattle.scheme.specs.declared.Scheme.{Scheme}
 use Rattle.scheme.proofs.Naming.{same-number}
-use Rattle.scheme.proofs.SchemeFacts.{decoded-low}
-use Rattle.scheme.proofs.Capacity.{decoded-short}
+use Rattle.scheme.proofs.Coding.{decoded-short, decoded-low}
 use Rattle.nametable.specs.Format.{entryAt, readerOf, schemeIn, labelIn}
 use Rattle.nametable.specs.Answer.{found, entryOutcome, entryText, findOutcome, counted}
 use Rattle.nametable.specs.declared.EntryAnswer.{EntryAnswer}

@@ -1,4 +1,3 @@
--- Laws on the schemes' numbers, and on encoding and decoding by scheme.
-pub mod SchemeFacts
-pub mod Capacity
+-- Laws on the directory of schemes, and on encoding and decoding by scheme.
 pub mod Naming
+pub mod Coding

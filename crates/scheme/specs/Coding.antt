@@ -1,29 +1,30 @@
--- What encoding and decoding answer, and labels and texts, by scheme.
+-- The codec of each scheme, and what it answers.
 use Prim.Native.Nat.{ℕ}
 use mathlib.Core.List.{List}
 use Rattle.basis.specs.Outcome.{Outcome}
-use Rattle.altdude.specs.Answer as altdude
-use Rattle.altdude.specs.Encoding as altdude-encoding
-use Rattle.altdude.specs.Decoding as altdude-decoding
-use Rattle.lace.specs.Octets.{isAllLdh}
-use Rattle.lace.specs.Answer as lace
-use Rattle.lace.specs.Encoding as lace-encoding
-use Rattle.lace.specs.Decoding as lace-decoding
+use Rattle.basis.specs.Codec.{Codec}
+use Rattle.altdude_facts.specs.Codec as altdude
+use Rattle.lace_facts.specs.Codec as lace
 use Rattle.scheme.specs.declared.Scheme.{Scheme}
 use Rattle.scheme.specs.declared.Scheme.the-variants.{Altdude, Lace}
 
-unfoldable pub encodeOutcome : Scheme → ℕ → List ℕ → Outcome
-encodeOutcome Altdude = altdude.encodeOutcome
-encodeOutcome Lace = lace.encodeOutcome isAllLdh
+-- a scheme's codec
+abbrev pub codecOf : Scheme → Codec
+codecOf Altdude = altdude.codec
+codecOf Lace = lace.codec
 
-unfoldable pub decodeOutcome : Scheme → ℕ → List ℕ → Outcome
-decodeOutcome Altdude = altdude.decodeOutcome
-decodeOutcome Lace = lace.decodeOutcome isAllLdh
+-- what encoding answers at a capacity
+abbrev pub encodeOutcome : Scheme → ℕ → List ℕ → Outcome
+encodeOutcome s = codecOf s .encodeOutcome
 
-unfoldable pub labelOf : Scheme → List ℕ → List ℕ
-labelOf Altdude = altdude-encoding.labelOf
-labelOf Lace = lace-encoding.labelOf
+-- what decoding answers at a capacity
+abbrev pub decodeOutcome : Scheme → ℕ → List ℕ → Outcome
+decodeOutcome s = codecOf s .decodeOutcome
 
-unfoldable pub textOf : Scheme → List ℕ → List ℕ
-textOf Altdude = altdude-decoding.textOf
-textOf Lace = lace-decoding.textOf
+-- the label of a text
+abbrev pub labelOf : Scheme → List ℕ → List ℕ
+labelOf s = codecOf s .labelOf
+
+-- the text of a label
+abbrev pub textOf : Scheme → List ℕ → List ℕ
+textOf s = codecOf s .textOf

@@ -1,4 +1,3 @@
--- What names a scheme, encoding and decoding by scheme, and the schemes of the demands.
+-- The directory of schemes, and the codec of each.
 pub mod Naming
 pub mod Coding
-pub mod Schemes

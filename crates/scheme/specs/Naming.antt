@@ -1,5 +1,6 @@
--- The schemes' numbers, kinds of record and letters, and the default.
+-- The directory of schemes: the number, the kind of entry and the letter of each, and what they name.
 use Prim.Native.Nat.{ℕ}
+use mathlib.Core.List.{List, [], _∷_}
 use lib.Dec.{eqb}
 use Rattle.basis.specs.Tests.{pick}
 use Rattle.scheme.specs.declared.Scheme.{Scheme}
@@ -7,15 +8,37 @@ use Rattle.scheme.specs.declared.Scheme.the-variants.{Altdude, Lace}
 use Rattle.scheme.specs.declared.Named.{Named}
 use Rattle.scheme.specs.declared.Named.the-variants.{Known, Unknown}
 
--- AltDUDE is 1, LACE is 2
-unfoldable pub numberOf : Scheme → ℕ
-numberOf Altdude = 1
-numberOf Lace = 2
+-- a row of the directory: the scheme's number, the kind of its entries and its letter
+pub record Row : Type 0 where
+  pub number : ℕ
+  pub kind : ℕ
+  pub letter : ℕ
 
--- the letters A and L
+-- AltDUDE is 1, has entries of kind 41 hex and the letter A; LACE is 2, with 4C hex and L
+unfoldable pub rowOf : Scheme → Row
+rowOf Altdude = record { number = 1; kind = 0x41; letter = 65 }
+rowOf Lace = record { number = 2; kind = 0x4c; letter = 76 }
+
+-- all schemes
+unfoldable pub schemes : List Scheme
+schemes = Altdude ∷ Lace ∷ []
+
+-- the scheme's number
+unfoldable pub numberOf : Scheme → ℕ
+numberOf s = rowOf s .number
+
+-- the kind of the scheme's entries
+unfoldable pub kindOf : Scheme → ℕ
+kindOf s = rowOf s .kind
+
+-- the scheme's letter
 unfoldable pub letterOf : Scheme → ℕ
-letterOf Altdude = 65
-letterOf Lace = 76
+letterOf s = rowOf s .letter
+
+-- the first of the schemes that has this value
+unfoldable pub firstWith : (Scheme → ℕ) → ℕ → List Scheme → Named
+firstWith valueOf value [] = Unknown
+firstWith valueOf value (s ∷ rest) = pick (eqb value (valueOf s)) (Known s) (firstWith valueOf value rest)
 
 -- the number that 0 stands for, the house default: LACE
 unfoldable pub defaultNumber : ℕ
@@ -23,12 +46,12 @@ defaultNumber = 2
 
 -- the scheme that a number names, 0 aside
 unfoldable pub ownNumberNames : ℕ → Named
-ownNumberNames n = pick (eqb n 1) (Known Altdude) (pick (eqb n 2) (Known Lace) Unknown)
+ownNumberNames number = firstWith numberOf number schemes
 
 -- the scheme that a number names; 0 names the default
 unfoldable pub numberNames : ℕ → Named
-numberNames n = pick (eqb n 0) (ownNumberNames defaultNumber) (ownNumberNames n)
+numberNames number = pick (eqb number 0) (ownNumberNames defaultNumber) (ownNumberNames number)
 
--- the scheme that a kind of record names: 41 hex AltDUDE, 4C hex LACE
+-- the scheme that a kind of entry names
 unfoldable pub kindNames : ℕ → Named
-kindNames kind = pick (eqb kind 0x41) (Known Altdude) (pick (eqb kind 0x4c) (Known Lace) Unknown)
+kindNames kind = firstWith kindOf kind schemes

@@ -1,12 +1,11 @@
 //! Times the exported functions beside the independent ones, and the programs.
 //! Not a test: no figure decides anything.
 
-use distelhut_host::compare::{Face, INDEPENDENT};
-use distelhut_host::exported::EXPORTED;
-use distelhut_host::gen::{written, Source};
-use distelhut_host::papers::{book_of, known_rows};
+use distelhut_host::generate::labels::lawful;
+use distelhut_host::generate::Source;
+use distelhut_host::papers::{table_of, KANA};
 use distelhut_host::scheme::Scheme;
-use distelhut_host::utf16;
+use distelhut_host::{c_interface, proved, utf16};
 use std::fs::{self, File};
 use std::hint::black_box;
 use std::io;
@@ -23,8 +22,8 @@ const CALL_RUNS: usize = 1001;
 /// How many runs of a program a figure is the median of.
 const PROGRAM_RUNS: usize = 15;
 
-/// How many cards the listed book has: the most that one can have.
-const CARDS: u16 = 500;
+/// How many entries the listed table has: the most that one can have.
+const ENTRIES: u16 = 500;
 
 /// How many lines the bench list is given.
 const LINES: usize = 200_000;
@@ -44,40 +43,31 @@ struct Name {
 fn name(about: &'static str, scheme: Scheme, points: &[u32]) -> Name {
     let units = utf16::units_of(points).expect("the names have points only");
     let text: Vec<u8> = units.iter().flat_map(|unit| unit.to_be_bytes()).collect();
-    let mut room = [0; 63];
-    let count = scheme.encode(points, &mut room).expect("each name has a label");
-    Name { about, scheme, text, label: room[..count].to_vec() }
+    let mut buffer = [0; 63];
+    let count = scheme.encode(points, &mut buffer).expect("each name has a label");
+    Name { about, scheme, text, label: buffer[..count].to_vec() }
 }
 
 /// The names that are timed: short, of middle length, and with the longest labels.
 fn names() -> Vec<Name> {
-    let kana = known_rows().pop().expect("the table has rows").text;
     vec![
         name("AltDUDE, U+00FC", Scheme::AltDude, &[0xFC]),
-        name("AltDUDE, 7 kana", Scheme::AltDude, &kana),
+        name("AltDUDE, 7 kana", Scheme::AltDude, &KANA),
         name("AltDUDE, 63 times U+0061", Scheme::AltDude, &[0x61; 63]),
         name("LACE, U+00FC", Scheme::Lace, &[0xFC]),
-        name("LACE, 7 kana", Scheme::Lace, &kana),
+        name("LACE, 7 kana", Scheme::Lace, &KANA),
         name("LACE, 34 times U+0431", Scheme::Lace, &[0x431; 34]),
     ]
 }
 
-/// The time of a run of writing a name.
-fn write_run(face: &Face, name: &Name) -> Duration {
-    let mut label = [0; 63];
-    let start = Instant::now();
-    for _ in 0..CALLS {
-        black_box((face.write)(name.scheme.number(), black_box(&name.text), &mut label));
-    }
-    start.elapsed()
-}
+/// A function of the C interface.
+type CFunction = fn(u32, &[u8], &mut [u8]) -> u32;
 
-/// The time of a run of reading a name.
-fn read_run(face: &Face, name: &Name) -> Duration {
-    let mut text = [0; 252];
+/// The time of a run of calls.
+fn run(function: CFunction, scheme: u32, given: &[u8], buffer: &mut [u8]) -> Duration {
     let start = Instant::now();
     for _ in 0..CALLS {
-        black_box((face.read)(name.scheme.number(), black_box(&name.label), &mut text));
+        black_box(function(scheme, black_box(given), buffer));
     }
     start.elapsed()
 }
@@ -89,14 +79,15 @@ fn median(mut times: Vec<Duration>) -> Duration {
 }
 
 /// Prints the nanoseconds of a call, exported and independent, run by turns.
-fn print_calls(about: &str, name: &Name, run: fn(&Face, &Name) -> Duration) {
-    let (mut exported, mut independent) = (Vec::new(), Vec::new());
+fn print_calls(about: &str, name: &Name, given: &[u8], capacity: usize, functions: [CFunction; 2]) {
+    let mut buffer = vec![0; capacity];
+    let mut times = [Vec::new(), Vec::new()];
     for _ in 0..CALL_RUNS {
-        exported.push(run(&EXPORTED, name));
-        independent.push(run(&INDEPENDENT, name));
+        for (function, times) in functions.iter().zip(&mut times) {
+            times.push(run(*function, name.scheme.number(), given, &mut buffer));
+        }
     }
-    let [exported, independent] =
-        [exported, independent].map(|times| median(times).as_nanos() / u128::from(CALLS));
+    let [exported, independent] = times.map(|times| median(times).as_nanos() / u128::from(CALLS));
     println!(
         "| {about}, {} | {} | {} | {exported} | {independent} |",
         name.about,
@@ -105,14 +96,14 @@ fn print_calls(about: &str, name: &Name, run: fn(&Face, &Name) -> Duration) {
     );
 }
 
-/// A book with as many cards as there can be, under both schemes.
-fn long_book() -> Vec<u8> {
+/// A table with as many entries as there can be, under both schemes.
+fn long_table() -> Vec<u8> {
     let mut source = Source::new(1);
-    let mut card = |reader| {
+    let mut entry = |reader| {
         let scheme = source.pick(&[Scheme::AltDude, Scheme::Lace]);
-        (scheme.kind(), reader, written(&mut source, scheme))
+        (scheme.kind(), reader, lawful(&mut source, scheme))
     };
-    book_of(&(1..=CARDS).map(&mut card).collect::<Vec<_>>())
+    table_of(&(1..=ENTRIES).map(&mut entry).collect::<Vec<_>>())
 }
 
 /// Lines with a lawful LACE label each.
@@ -120,7 +111,7 @@ fn label_lines() -> Vec<u8> {
     let mut source = Source::new(1);
     let mut lines = Vec::new();
     for _ in 0..LINES {
-        lines.extend(written(&mut source, Scheme::Lace));
+        lines.extend(lawful(&mut source, Scheme::Lace));
         lines.push(b'\n');
     }
     lines
@@ -185,15 +176,15 @@ fn print() -> io::Result<()> {
     println!("| call | text bytes | label bytes | exported, ns | independent, ns |");
     println!("|---|---|---|---|---|");
     for name in names() {
-        print_calls("write", &name, write_run);
-        print_calls("read", &name, read_run);
+        print_calls("write", &name, &name.text, 63, [proved::write, c_interface::write]);
+        print_calls("read", &name, &name.label, 252, [proved::read, c_interface::read]);
     }
     println!(
         "\nMedians of {PROGRAM_RUNS} runs, from a program's start to its end, output dropped.\n"
     );
     println!("| program | lines | lines a second |");
     println!("|---|---|---|");
-    print_program("nametable_list", &long_book(), usize::from(CARDS))?;
+    print_program("nametable_list", &long_table(), usize::from(ENTRIES))?;
     print_program("bench_list", &label_lines(), LINES)
 }
 

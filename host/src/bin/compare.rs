@@ -1,18 +1,19 @@
-//! Compares the proved library's exported functions with the independent ones.
+//! Compares the proved library's functions with the independent ones.
 //!
 //! compare [N] [SEED]
 
-use distelhut_host::compare::{compare, INDEPENDENT};
-use distelhut_host::exported::EXPORTED;
+use distelhut_host::compare::COMPARISONS;
+use distelhut_host::functions::INDEPENDENT;
+use distelhut_host::proved::PROVED;
 use std::process::ExitCode;
 
 const USAGE: &str = "usage: compare [N] [SEED]
-  N     how many generated calls follow the fixed ones (400000)
+  N     how many cases are generated for each function (200000)
   SEED  the seed of the generator (1)";
 
 /// Reads the arguments; none if they are not as the usage says.
 fn wish(mut arguments: impl Iterator<Item = String>) -> Option<(usize, u64)> {
-    let count = arguments.next().map_or(Some(400_000), |word| word.parse().ok())?;
+    let count = arguments.next().map_or(Some(200_000), |word| word.parse().ok())?;
     let seed = arguments.next().map_or(Some(1), |word| word.parse().ok())?;
     match arguments.next() {
         None => Some((count, seed)),
@@ -25,14 +26,14 @@ fn main() -> ExitCode {
         eprintln!("{USAGE}");
         return ExitCode::from(2);
     };
-    match compare(count, seed, &[INDEPENDENT, EXPORTED]) {
-        Ok(line) => {
-            println!("compare: {line}");
-            ExitCode::SUCCESS
-        }
-        Err(difference) => {
-            println!("compare: {difference}");
-            ExitCode::FAILURE
+    for (_, compare) in COMPARISONS {
+        match compare(count, seed, &[INDEPENDENT, PROVED]) {
+            Ok(line) => println!("compare: {line}"),
+            Err(difference) => {
+                println!("compare: {difference}");
+                return ExitCode::FAILURE;
+            }
         }
     }
+    ExitCode::SUCCESS
 }

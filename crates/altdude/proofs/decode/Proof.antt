@@ -5,7 +5,7 @@ use native.Mathlib.Omega.{arith}
 use lib.ListN.{length}
 use borrow.Author.Needs.{needs}
 use borrow.Author.Tests.{not-false}
-use Rattle.basis.specs.Outcome.{done, numberOf}
+use Rattle.basis.specs.Outcome.{done}
 use Rattle.basis.proofs.Outcome.{stop-told, pass-told, stop-found, pass-found, refusal-leaves, done-leaves}
 use Rattle.utf16.specs.Answer.{pointsOutcome}
 use Rattle.labels.proofs.FirstTests.{check-stops, check-passes, label-checked}
@@ -26,7 +26,7 @@ label-has-edge-hyphen-requires c κs =
     omega (arith, checked .some)
 
 returns-2 : tie.Need-returns-2
-unfolding pointsOutcome numberOf decodeOutcome
+unfolding pointsOutcome decodeOutcome
 returns-2 c =
     let o = c .before .before .before .before in
     let p = o .before in
@@ -35,7 +35,7 @@ returns-2 c =
     (check-passes _ _ (p .before .before .check-label .ensures) _ (p .enum-told .given .1) ∙ stop-found 7 (length l) _ _ _ (o .first-outside .ensures) (omega arith))
 
 returns-3 : tie.Need-returns-3
-unfolding pointsOutcome numberOf decodeOutcome
+unfolding pointsOutcome decodeOutcome
 returns-3 c =
     let e = c .before .before in
     let h = e .before .before in
@@ -47,7 +47,7 @@ returns-3 c =
     ∙ stop-told 5 0 _ _ _ (h .label-has-edge-hyphen .ensures) (c .before .if2 .taken))
 
 returns-4 : tie.Need-returns-4
-unfolding pointsOutcome numberOf decodeOutcome
+unfolding pointsOutcome decodeOutcome
 returns-4 c =
     let e = c .before .before in
     let r = e .before .before in

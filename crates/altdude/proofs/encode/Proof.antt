@@ -45,7 +45,7 @@ returns : tie.Need-returns
 returns c = (search first-answered, search first-left)
 
 returns-2 : tie.Need-returns-2
-unfolding bytesOutcome numberOf encodeOutcome
+unfolding bytesOutcome encodeOutcome
 returns-2 c =
     let p = c .before .before .before in
     let h = p .before .before in
@@ -53,7 +53,7 @@ returns-2 c =
     (check-passes _ _ (h .before .check-text .ensures) _ (p .enum-told .given .1) ∙ stop-told 5 0 _ _ _ (h .text-has-edge-hyphen .ensures) (c .before .if1 .taken))
 
 returns-3 : tie.Need-returns-3
-unfolding bytesOutcome numberOf encodeOutcome
+unfolding bytesOutcome encodeOutcome
 returns-3 c =
     let e = c .before .before in
     let n = e .before in

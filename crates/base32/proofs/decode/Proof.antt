@@ -4,7 +4,7 @@ use native.Mathlib.Omega.{arith}
 use lib.ListN.{length}
 use borrow.Author.Needs.{needs}
 use borrow.Author.Tests.{not-true, not-false, eq-eqb, ne-eqb}
-use Rattle.basis.specs.Outcome.{bytesOutcome, numberOf}
+use Rattle.basis.specs.Outcome.{bytesOutcome}
 use Rattle.basis.proofs.Outcome.{refused-leaves, done-leaves}
 use Rattle.base32.specs.Alphabet.{lace, valuesOf}
 use Rattle.base32.proofs.Form.{length-unlawful, octet-lawful}
@@ -14,14 +14,14 @@ use Rattle.base32.proofs.decode.Statement.{statement}
 use Rattle.base32.proofs.decode.Tie as tie
 
 returns : tie.Need-returns
-unfolding bytesOutcome numberOf
+unfolding bytesOutcome
 returns c =
     let f = c .before .before in
     let a = f .before .before .before .before .args in
     refused-leaves _ _ _ 1 0 (decode-capacity (a .characters .now) (length (a .octets .now)) _ (f .before .octet-count .ensures) (omega arith))
 
 returns-2 : tie.Need-returns-2
-unfolding bytesOutcome numberOf
+unfolding bytesOutcome
 returns-2 c =
     let e = c .before in
     let f = e .before .before in
@@ -30,7 +30,7 @@ returns-2 c =
     (decode-outside (a .characters .now) (length (a .octets .now)) _ (f .before .octet-count .ensures) (omega (arith, e .if1 .left)) _ (f .first-outside-lace .ensures) (omega arith))
 
 returns-3 : tie.Need-returns-3
-unfolding bytesOutcome numberOf
+unfolding bytesOutcome
 returns-3 c =
     let g = c .before in
     let l = g .before .before in
@@ -48,7 +48,7 @@ octet-requires c κs =
     (omega arith, none-outside lace (f .before .before .before .before .args .characters .now) _ (f .first-outside-lace .ensures) (omega (arith, g .if2 .left)))
 
 returns-4 : tie.Need-returns-4
-unfolding bytesOutcome numberOf
+unfolding bytesOutcome
 returns-4 c =
     let h = c .before .before in
     let g = h .before in

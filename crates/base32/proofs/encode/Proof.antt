@@ -1,23 +1,14 @@
 -- The capacity is tested before the first store.
 use borrow.Author.Needs.{needs}
-use Rattle.basis.specs.Outcome.{bytesOutcome, numberOf}
+use Rattle.basis.specs.Outcome.{bytesOutcome}
 use Rattle.basis.proofs.Outcome.{refused-leaves, done-leaves}
 use Rattle.base32.proofs.Outcomes.{encode-capacity, encode-done}
 use Rattle.base32.proofs.encode.Statement.{statement}
 use Rattle.base32.proofs.encode.Tie as tie
 
-quintet-count-requires : tie.Need-quintet-count-requires
-quintet-count-requires c κs = search needs
-
 returns : tie.Need-returns
-unfolding bytesOutcome numberOf
+unfolding bytesOutcome
 returns c = refused-leaves _ _ _ _ _ (encode-capacity _ _ _ (c .before .quintet-count .ensures) (c .if1 .taken))
-
-put-characters-requires : tie.Need-put-characters-requires
-put-characters-requires c κs = search needs
-
-same-length : tie.Need-same-length
-same-length c = search needs
 
 returns-2 : tie.Need-returns-2
 unfolding bytesOutcome
@@ -29,4 +20,4 @@ returns-2 c =
 pub encode-spec : {M : Type 1} → statement M
 encode-spec =
     tie.close
-    (tie.spec quintet-count-requires returns put-characters-requires same-length returns-2)
+    (tie.spec (λ c κs. search needs) returns (λ c κs. search needs) (λ c. search needs) returns-2)

@@ -7,20 +7,11 @@ use Rattle.firmware.specs.Answer.{answerOf}
 use Rattle.firmware.proofs.answer_number.Statement.{statement}
 use Rattle.firmware.proofs.answer_number.Tie as tie
 
-enum-known-answer : tie.Need-enum-known-answer
-enum-known-answer c = search needs
-
 cast-result : tie.Need-cast-result
 unfolding bytesOutcome countOf
 cast-result c =
     let few = rw (c .before .before .answer .given .1) at (c .before .before .before .before .pre) in
     record { fits = omega arith }
-
-enum-known-answer-2 : tie.Need-enum-known-answer-2
-enum-known-answer-2 c = search needs
-
-code-number-requires : tie.Need-code-number-requires
-code-number-requires c κs = search needs
 
 add-result : tie.Need-add-result
 add-result c = record { fits = omega (arith, c .code-number .ensures, number-place (c .before .before .answer2 .given .0 .0) .1) }
@@ -37,10 +28,10 @@ pub answer-number-spec : {M : Type 1} → statement M
 answer-number-spec =
     tie.close
     (tie.spec
-    enum-known-answer
+    (λ c. search needs)
     cast-result
-    enum-known-answer-2
-    code-number-requires
+    (λ c. search needs)
+    (λ c κs. search needs)
     add-result
     returns
     returns-2)

@@ -6,17 +6,11 @@ use Rattle.firmware.proofs.Counts.{read-few}
 use Rattle.firmware.proofs.distelhut_read.Statement.{statement}
 use Rattle.firmware.proofs.distelhut_read.Tie as tie
 
-read-requires : tie.Need-read-requires
-read-requires c κs = search needs
-
 answer-number-requires : tie.Need-answer-number-requires
 answer-number-requires c κs = rw (c .before .before .read .ensures .0) (read-few _ _ _)
-
-same-length : tie.Need-same-length
-same-length c = search needs
 
 returns : tie.Need-returns
 returns c = let d = c .before .before .before .read .ensures in (c .answer-number .ensures ∙ ap answerOf (d .0), d .1)
 
 pub distelhut-read-spec : {M : Type 1} → statement M
-distelhut-read-spec = tie.close (tie.spec read-requires answer-number-requires same-length returns)
+distelhut-read-spec = tie.close (tie.spec (λ c κs. search needs) answer-number-requires (λ c. search needs) returns)

@@ -6,18 +6,12 @@ use Rattle.firmware.proofs.Counts.{write-fits}
 use Rattle.firmware.proofs.distelhut_write.Statement.{statement}
 use Rattle.firmware.proofs.distelhut_write.Tie as tie
 
-write-requires : tie.Need-write-requires
-write-requires c κs = search needs
-
 answer-number-requires : tie.Need-answer-number-requires
 answer-number-requires c κs = rw (c .before .before .write .ensures .0) (write-fits _ _ _)
-
-same-length : tie.Need-same-length
-same-length c = search needs
 
 returns : tie.Need-returns
 returns c = let d = c .before .before .before .write .ensures in (c .answer-number .ensures ∙ ap answerOf (d .0), d .1)
 
 pub distelhut-write-spec : {M : Type 1} → statement M
 distelhut-write-spec =
-    tie.close (tie.spec write-requires answer-number-requires same-length returns)
+    tie.close (tie.spec (λ c κs. search needs) answer-number-requires (λ c. search needs) returns)

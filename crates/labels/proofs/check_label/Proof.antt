@@ -2,7 +2,6 @@
 use mathlib.Core.Path.{sym, _∙_}
 use native.Mathlib.Omega.{arith}
 use borrow.Author.Needs.{needs}
-use Rattle.basis.specs.Outcome.{numberOf}
 use Rattle.basis.proofs.Outcome.{stop-below, pass-below}
 use Rattle.labels.specs.Tests.{labelTests}
 use Rattle.labels.specs.Answer.{thenOutcome}
@@ -15,7 +14,7 @@ unfolding thenOutcome labelTests
 returns c = λ next. sym (check-stops _ _ (c .before .before .before .check-sizes .ensures) _ _ _ (c .before .sizes .given .1))
 
 returns-2 : tie.Need-returns-2
-unfolding thenOutcome numberOf labelTests
+unfolding thenOutcome labelTests
 returns-2 c =
     let p = c .before in
     let a = p .before .before .before .args in

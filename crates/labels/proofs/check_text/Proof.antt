@@ -1,7 +1,6 @@
 -- `check_text` meets its contract: each test answers in its turn, and what passes them all goes on.
 use mathlib.Core.Path.{sym, _∙_}
 use borrow.Author.Needs.{needs}
-use Rattle.basis.specs.Outcome.{numberOf}
 use Rattle.basis.proofs.Outcome.{stop-found, pass-found}
 use Rattle.labels.specs.Tests.{textTests}
 use Rattle.labels.specs.Answer.{thenOutcome}
@@ -13,11 +12,8 @@ returns : tie.Need-returns
 unfolding thenOutcome textTests
 returns c = λ next. sym (check-stops _ _ (c .before .before .before .check-sizes .ensures) _ _ _ (c .before .sizes .given .1))
 
-first-not-point-requires : tie.Need-first-not-point-requires
-first-not-point-requires c κs = search needs
-
 returns-2 : tie.Need-returns-2
-unfolding thenOutcome numberOf textTests
+unfolding thenOutcome textTests
 returns-2 c =
     let f = c .before in
     let p = f .before in
@@ -38,6 +34,6 @@ check-text-spec =
     (λ c. search needs)
     returns
     (λ c. search needs)
-    first-not-point-requires
+    (λ c κs. search needs)
     returns-2
     returns-3)

@@ -50,7 +50,7 @@ returns : tie.Need-returns
 returns c = (search first-answered, search first-left)
 
 returns-2 : tie.Need-returns-2
-unfolding pointsOutcome numberOf decodeOutcome
+unfolding pointsOutcome decodeOutcome
 returns-2 c =
     let p = c .before .before in
     let h = p .before .before in

@@ -2,7 +2,7 @@
 use mathlib.Core.Path.{ap, _∙_}
 use native.Mathlib.Omega.{arith}
 use borrow.Author.Needs.{needs}
-use Rattle.basis.specs.Outcome.{bytesOutcome, numberOf}
+use Rattle.basis.specs.Outcome.{bytesOutcome}
 use Rattle.basis.proofs.Outcome.{stop-told, pass-told, stop-below, refusal-leaves, handed-leaves}
 use Rattle.utf16.specs.Answer.{unitsOutcome}
 use Rattle.labels.proofs.FirstTests.{check-stops, check-passes, text-checked}
@@ -19,43 +19,22 @@ use Rattle.utf16.proofs.to_units.Reads as to-units-reads
 use Rattle.lace.proofs.octets.text_all_ldh.Reads as text-all-ldh-reads
 use Rattle.lace.proofs.encoding.encode_units.Reads as encode-units-reads
 
-check-text-requires : tie.Need-check-text-requires
-check-text-requires c κs = search needs
-
-enum-known-check : tie.Need-enum-known-check
-enum-known-check c = search needs
-
-bytes-error-requires : tie.Need-bytes-error-requires
-bytes-error-requires c κs = search needs
-
 returns : tie.Need-returns
 unfolding bytesOutcome encodeOutcome
 returns c =
     let k = c .before .before in
     refusal-leaves (encodeOutcome isAllLdh _ _) _ _ _ _ _ (ap bytesOutcome (c .bytes-error .ensures)) (check-stops _ _ (k .before .before .check-text .ensures) _ _ _ (k .check .given .1))
 
-enum-told : tie.Need-enum-told
-enum-told c = search needs
-
-text-all-ldh-requires : tie.Need-text-all-ldh-requires
-text-all-ldh-requires c κs = search needs
-
-bytes-error-requires-2 : tie.Need-bytes-error-requires-2
-bytes-error-requires-2 c κs = search needs
-
 returns-2 : tie.Need-returns-2
-unfolding bytesOutcome numberOf encodeOutcome
+unfolding bytesOutcome encodeOutcome
 returns-2 c =
     let h = c .before .before in
     let p = h .before in
     refusal-leaves (encodeOutcome isAllLdh _ _) _ _ _ 6 0 (ap bytesOutcome (c .bytes-error2 .ensures))
     (check-passes _ _ (p .before .before .check-text .ensures) _ (p .enum-told .given .1) ∙ stop-told 6 0 _ _ _ (h .text-all-ldh .ensures) (c .before .if1 .taken))
 
-bytes-error-requires-3 : tie.Need-bytes-error-requires-3
-bytes-error-requires-3 c κs = search needs
-
 returns-3 : tie.Need-returns-3
-unfolding bytesOutcome numberOf encodeOutcome
+unfolding bytesOutcome encodeOutcome
 returns-3 c =
     let h = c .before .before .before in
     let p = h .before in
@@ -71,21 +50,6 @@ converted u =
     let p = f .before .before .before in
     let checked = text-checked _ (p .enum-told .given .1) _ _ (p .before .before .check-text .ensures) in
     converts _ (checked .points) (f .if2 .left) _ _ (u .to-units .ensures .0) (omega arith) _ _ (u .to-units .ensures .1)
-
-slice-aggregate-to-units : tie.Need-slice-aggregate-to-units
-slice-aggregate-to-units c = search needs
-
-to-units-requires : tie.Need-to-units-requires
-to-units-requires c κs = search needs
-
-enum-known-answer : tie.Need-enum-known-answer
-enum-known-answer c = search needs
-
-bytes-error-requires-4 : tie.Need-bytes-error-requires-4
-bytes-error-requires-4 c κs = search needs
-
-enum-known-answer-2 : tie.Need-enum-known-answer-2
-enum-known-answer-2 c = search needs
 
 array-share-prefix-units : tie.Need-array-share-prefix-units
 unfolding unitsOutcome
@@ -107,9 +71,6 @@ returns-4 : tie.Need-returns-4
 unfolding unitsOutcome
 returns-4 c = absurd (not-refused (converted (c .before .before .before .before .before)) (ap unitsOutcome (c .before .before .answer .given .1)))
 
-same-length : tie.Need-same-length
-same-length c = search needs
-
 returns-5 : tie.Need-returns-5
 unfolding unitsOutcome encodeOutcome
 returns-5 c =
@@ -128,24 +89,24 @@ pub encode-spec : {M : Type 1} → statement M
 encode-spec =
     tie.close
     (tie.spec
-    check-text-requires
-    enum-known-check
-    bytes-error-requires
+    (λ c κs. search needs)
+    (λ c. search needs)
+    (λ c κs. search needs)
     returns
-    enum-told
-    text-all-ldh-requires
-    bytes-error-requires-2
+    (λ c. search needs)
+    (λ c κs. search needs)
+    (λ c κs. search needs)
     returns-2
-    bytes-error-requires-3
+    (λ c κs. search needs)
     returns-3
-    slice-aggregate-to-units
-    to-units-requires
-    enum-known-answer
-    bytes-error-requires-4
-    enum-known-answer-2
+    (λ c. search needs)
+    (λ c κs. search needs)
+    (λ c. search needs)
+    (λ c κs. search needs)
+    (λ c. search needs)
     array-share-prefix-units
     slice-aggregate-encode-units
     encode-units-requires
     returns-4
-    same-length
+    (λ c. search needs)
     returns-5)

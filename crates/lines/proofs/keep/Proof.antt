@@ -22,20 +22,8 @@ same-length c = c .before .before .loop .inv .0 .long
 returns : tie.Need-returns Inv-loop μ-loop
 returns c = holding-full _ _ _ _ _ _ (c .before .before .loop .inv .0) (c .if1 .taken)
 
-shared-slice-read-line : tie.Need-shared-slice-read-line Inv-loop μ-loop
-shared-slice-read-line c = search needs
-
 slice-write-line : tie.Need-slice-write-line Inv-loop μ-loop
 slice-write-line c = let h = c .before .before .before .loop .inv .0 in omega (arith, h .fits, h .long)
-
-add-n : tie.Need-add-n Inv-loop μ-loop
-add-n c = search needs
-
-add-i : tie.Need-add-i Inv-loop μ-loop
-add-i c = search needs
-
-loop-less : tie.Need-loop-less Inv-loop μ-loop
-loop-less c = search needs
 
 loop-again : tie.Need-loop-again Inv-loop μ-loop
 loop-again c =
@@ -57,11 +45,11 @@ keep-spec =
     loop-holds
     same-length
     returns
-    shared-slice-read-line
+    (λ c. search needs)
     slice-write-line
-    add-n
-    add-i
-    loop-less
+    (λ c. search needs)
+    (λ c. search needs)
+    (λ c. search needs)
     loop-again
     same-length-2
     returns-2)

@@ -2,24 +2,15 @@
 use mathlib.Core.Path.{ap}
 use native.Mathlib.Omega.{arith}
 use borrow.Author.Needs.{needs}
-use Rattle.basis.specs.Outcome.{bytesOutcome, numberOf}
+use Rattle.basis.specs.Outcome.{bytesOutcome}
 use Rattle.report.specs.Lines.{listLine}
 use Rattle.report.proofs.Writes.{stored-long}
 use Rattle.report.proofs.LineLaws.{points-line-length, list-line-length, line-refused, line-done}
 use Rattle.report.proofs.list_line.Statement.{statement}
 use Rattle.report.proofs.list_line.Tie as tie
 
-points-length-requires : tie.Need-points-length-requires
-points-length-requires c κs = search needs
-
-add-if1 : tie.Need-add-if1
-add-if1 c = search needs
-
-bytes-error-requires : tie.Need-bytes-error-requires
-bytes-error-requires c κs = search needs
-
 returns : tie.Need-returns
-unfolding bytesOutcome numberOf
+unfolding bytesOutcome
 returns c =
     let a = c .before .before .before .before .before .args in
     line-refused (listLine (a .reader) (a .letter) (a .points .now)) (a .out .now)
@@ -46,9 +37,9 @@ pub list-line-spec : {M : Type 1} → statement M
 list-line-spec =
     tie.close
     (tie.spec
-    points-length-requires
-    add-if1
-    bytes-error-requires
+    (λ c κs. search needs)
+    (λ c. search needs)
+    (λ c κs. search needs)
     returns
     put-list-line-requires
     same-length

@@ -2,30 +2,15 @@
 use mathlib.Core.Path.{ap}
 use native.Mathlib.Omega.{arith}
 use borrow.Author.Needs.{needs}
-use Rattle.basis.specs.Outcome.{bytesOutcome, numberOf}
+use Rattle.basis.specs.Outcome.{bytesOutcome}
 use Rattle.report.specs.Lines.{refusedAtLine}
 use Rattle.report.proofs.Writes.{stored-long}
 use Rattle.report.proofs.LineLaws.{number-length, refused-at-length, line-refused, line-done}
 use Rattle.report.proofs.refused_at_line.Statement.{statement}
 use Rattle.report.proofs.refused_at_line.Tie as tie
 
-digits-length-requires : tie.Need-digits-length-requires
-digits-length-requires c κs = search needs
-
-digits-length-requires-2 : tie.Need-digits-length-requires-2
-digits-length-requires-2 c κs = search needs
-
-add-if1 : tie.Need-add-if1
-add-if1 c = search needs
-
-add-if1-2 : tie.Need-add-if1-2
-add-if1-2 c = search needs
-
-bytes-error-requires : tie.Need-bytes-error-requires
-bytes-error-requires c κs = search needs
-
 returns : tie.Need-returns
-unfolding bytesOutcome numberOf
+unfolding bytesOutcome
 returns c =
     let a = c .before .before .before .before .before .args in
     line-refused (refusedAtLine (a .code) (a .position)) (a .out .now) (omega (arith, refused-at-length (a .code) (a .position), number-length (a .code))) _
@@ -50,11 +35,11 @@ pub refused-at-line-spec : {M : Type 1} → statement M
 refused-at-line-spec =
     tie.close
     (tie.spec
-    digits-length-requires
-    digits-length-requires-2
-    add-if1
-    add-if1-2
-    bytes-error-requires
+    (λ c κs. search needs)
+    (λ c κs. search needs)
+    (λ c. search needs)
+    (λ c. search needs)
+    (λ c κs. search needs)
     returns
     put-refused-at-line-requires
     same-length

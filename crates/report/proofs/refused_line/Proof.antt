@@ -2,24 +2,15 @@
 use mathlib.Core.Path.{ap}
 use native.Mathlib.Omega.{arith}
 use borrow.Author.Needs.{needs}
-use Rattle.basis.specs.Outcome.{bytesOutcome, numberOf}
+use Rattle.basis.specs.Outcome.{bytesOutcome}
 use Rattle.report.specs.Lines.{refusedLine}
 use Rattle.report.proofs.Writes.{stored-long}
 use Rattle.report.proofs.LineLaws.{number-length, refused-length, line-refused, line-done}
 use Rattle.report.proofs.refused_line.Statement.{statement}
 use Rattle.report.proofs.refused_line.Tie as tie
 
-digits-length-requires : tie.Need-digits-length-requires
-digits-length-requires c κs = search needs
-
-add-if1 : tie.Need-add-if1
-add-if1 c = search needs
-
-bytes-error-requires : tie.Need-bytes-error-requires
-bytes-error-requires c κs = search needs
-
 returns : tie.Need-returns
-unfolding bytesOutcome numberOf
+unfolding bytesOutcome
 returns c =
     let a = c .before .before .before .before .args in
     line-refused (refusedLine (a .code)) (a .out .now) (omega (arith, refused-length (a .code), number-length (a .code))) _
@@ -44,9 +35,9 @@ pub refused-line-spec : {M : Type 1} → statement M
 refused-line-spec =
     tie.close
     (tie.spec
-    digits-length-requires
-    add-if1
-    bytes-error-requires
+    (λ c κs. search needs)
+    (λ c. search needs)
+    (λ c κs. search needs)
     returns
     put-refused-line-requires
     same-length

@@ -1,44 +1,23 @@
 -- `encode` meets its contract: each scheme's own entry does.
-use Rattle.scheme.specs.Coding.{encodeOutcome, labelOf}
 use borrow.Author.Needs.{needs}
 use Rattle.scheme.proofs.encode.Statement.{statement}
 use Rattle.scheme.proofs.encode.Tie as tie
 
-enum-told : tie.Need-enum-told
-enum-told c = search needs
-
-encode-requires : tie.Need-encode-requires
-encode-requires c κs = search needs
-
-enum-told-2 : tie.Need-enum-told-2
-enum-told-2 c = search needs
-
-encode-requires-2 : tie.Need-encode-requires-2
-encode-requires-2 c κs = search needs
-
-same-length : tie.Need-same-length
-same-length c = search needs
-
 returns : tie.Need-returns
-unfolding encodeOutcome labelOf
 returns c = rw (c .before .before .before .before .enum-told .given .1) (c .before .before .encode .ensures)
 
-same-length-2 : tie.Need-same-length-2
-same-length-2 c = search needs
-
 returns-2 : tie.Need-returns-2
-unfolding encodeOutcome labelOf
 returns-2 c = rw (c .before .before .before .before .enum-told2 .given .1) (c .before .before .encode2 .ensures)
 
 pub encode-spec : {M : Type 1} → statement M
 encode-spec =
     tie.close
     (tie.spec
-    enum-told
-    encode-requires
-    enum-told-2
-    encode-requires-2
-    same-length
+    (λ c. search needs)
+    (λ c κs. search needs)
+    (λ c. search needs)
+    (λ c κs. search needs)
+    (λ c. search needs)
     returns
-    same-length-2
+    (λ c. search needs)
     returns-2)

@@ -6,15 +6,9 @@ use borrow.Author.Needs.{needs}
 use Rattle.scheme.proofs.of_number.Statement.{statement}
 use Rattle.scheme.proofs.of_number.Tie as tie
 
-of-own-number-requires : tie.Need-of-own-number-requires
-of-own-number-requires c κs = search needs
-
 returns : tie.Need-returns
 unfolding numberNames defaultNumber
 returns c = c .of-own-number .ensures ∙ rw (c .before .if1 .taken)
-
-of-own-number-requires-2 : tie.Need-of-own-number-requires-2
-of-own-number-requires-2 c κs = search needs
 
 returns-2 : tie.Need-returns-2
 unfolding numberNames
@@ -22,4 +16,4 @@ returns-2 c = c .of-own-number2 .ensures ∙ rw (ne-eqb _ _ (c .before .if1 .lef
 
 pub of-number-spec : {M : Type 1} → statement M
 of-number-spec =
-    tie.close (tie.spec of-own-number-requires returns of-own-number-requires-2 returns-2)
+    tie.close (tie.spec (λ c κs. search needs) returns (λ c κs. search needs) returns-2)

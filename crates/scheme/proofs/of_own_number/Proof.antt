@@ -1,19 +1,19 @@
 -- `of_own_number` meets its contract, test by test.
 use borrow.Author.Tests.{ne-eqb}
-use Rattle.scheme.specs.Naming.{ownNumberNames}
+use Rattle.scheme.specs.Naming.{rowOf, schemes, numberOf, firstWith, ownNumberNames}
 use Rattle.scheme.proofs.of_own_number.Statement.{statement}
 use Rattle.scheme.proofs.of_own_number.Tie as tie
 
 returns : tie.Need-returns
-unfolding ownNumberNames
+unfolding ownNumberNames firstWith schemes numberOf rowOf
 returns c = rw (c .if1 .taken)
 
 returns-2 : tie.Need-returns-2
-unfolding ownNumberNames
+unfolding ownNumberNames firstWith schemes numberOf rowOf
 returns-2 c = rw (c .if2 .taken)
 
 returns-3 : tie.Need-returns-3
-unfolding ownNumberNames
+unfolding ownNumberNames firstWith schemes numberOf rowOf
 returns-3 c = rw (ne-eqb _ _ (c .before .if1 .left), ne-eqb _ _ (c .if2 .left))
 
 pub of-own-number-spec : {M : Type 1} → statement M

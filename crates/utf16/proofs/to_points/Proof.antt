@@ -5,7 +5,6 @@ use lib.ListN.{length}
 use lib.Seq.{length-take-le}
 use borrow.Author.Needs.{needs}
 use native.Mathlib.Omega.{arith}
-use Rattle.basis.specs.Outcome.{numberOf}
 use Rattle.basis.proofs.Outcome.{refused-leaves, done-leaves}
 use Rattle.utf16.specs.Answer.{pointsOutcome, toPointsOutcome}
 use Rattle.utf16.proofs.Refusals.{capacity-refused, element-refused, all-done}
@@ -13,7 +12,7 @@ use Rattle.utf16.proofs.to_points.Statement.{statement}
 use Rattle.utf16.proofs.to_points.Tie as tie
 
 returns : tie.Need-returns
-unfolding pointsOutcome toPointsOutcome numberOf
+unfolding pointsOutcome toPointsOutcome
 returns c =
     let a = c .before .before .before .args in
     refused-leaves _ _ _ 1 0 (capacity-refused (length (a .units .now)) (a .count .0) _ _ _ _ _ (inl (omega (arith, c .if1 .taken))))
@@ -25,13 +24,13 @@ first-unpaired-requires : tie.Need-first-unpaired-requires
 first-unpaired-requires c κs = tt
 
 returns-2 : tie.Need-returns-2
-unfolding pointsOutcome toPointsOutcome numberOf
+unfolding pointsOutcome toPointsOutcome
 returns-2 c =
     let a = c .before .before .before .before .before .before .args in
     refused-leaves _ _ _ 1 0 (capacity-refused _ (a .count .0) (a .count .0) (length (a .points .now)) _ _ _ (inr (omega (arith, c .if2 .taken))))
 
 returns-3 : tie.Need-returns-3
-unfolding pointsOutcome toPointsOutcome numberOf
+unfolding pointsOutcome toPointsOutcome
 returns-3 c =
     let s = c .before .before in
     let a = s .before .before .before .before .before .args in
@@ -43,9 +42,6 @@ put-points-requires c κs =
     let e = c .before .before in
     let h = e .before .before .before .if1 .left in
     rw length-take-le (omega (arith, e .if2 .left))
-
-same-length : tie.Need-same-length
-same-length c = search needs
 
 returns-4 : tie.Need-returns-4
 unfolding pointsOutcome toPointsOutcome
@@ -69,5 +65,5 @@ to-points-spec =
     returns-2
     returns-3
     put-points-requires
-    same-length
+    (λ c. search needs)
     returns-4)

@@ -6,7 +6,6 @@ use lib.ListN.{length}
 use lib.Seq.{length-take-le}
 use borrow.Author.Needs.{needs}
 use native.Mathlib.Omega.{arith}
-use Rattle.basis.specs.Outcome.{numberOf}
 use Rattle.basis.proofs.Outcome.{refused-leaves, done-leaves}
 use Rattle.utf16.specs.Answer.{unitsOutcome, toUnitsOutcome}
 use Rattle.utf16.proofs.Refusals.{capacity-refused, element-refused, all-done, text-judged}
@@ -14,7 +13,7 @@ use Rattle.utf16.proofs.to_units.Statement.{statement}
 use Rattle.utf16.proofs.to_units.Tie as tie
 
 returns : tie.Need-returns
-unfolding unitsOutcome toUnitsOutcome numberOf
+unfolding unitsOutcome toUnitsOutcome
 returns c =
     let a = c .before .before .before .args in
     refused-leaves _ _ _ 1 0 (capacity-refused (length (a .points .now)) (a .count .0) _ _ _ _ _ (inl (omega (arith, c .if1 .taken))))
@@ -25,17 +24,14 @@ slice-aggregate-row c = sym (length-take-le _ _ (c .before .if1 .left))
 first-not-point-requires : tie.Need-first-not-point-requires
 first-not-point-requires c κs = tt
 
-mul-needed : tie.Need-mul-needed
-mul-needed c = search needs
-
 returns-2 : tie.Need-returns-2
-unfolding unitsOutcome toUnitsOutcome numberOf
+unfolding unitsOutcome toUnitsOutcome
 returns-2 c =
     let a = c .before .before .before .before .before .before .args in
     refused-leaves _ _ _ 1 0 (capacity-refused _ (a .count .0) (2 * a .count .0) (length (a .units .now)) _ _ _ (inr (omega (arith, c .if2 .taken))))
 
 returns-3 : tie.Need-returns-3
-unfolding unitsOutcome toUnitsOutcome numberOf
+unfolding unitsOutcome toUnitsOutcome
 returns-3 c =
     let s = c .before .before in
     let a = s .before .before .before .before .before .args in
@@ -50,9 +46,6 @@ put-units-requires c κs =
       rw length-take-le (omega (arith, e .before .if2 .left)),
       text-judged _ _ _ h (f .first-not-point .ensures) (omega (arith, e .if3 .left)),
     )
-
-same-length : tie.Need-same-length
-same-length c = search needs
 
 returns-4 : tie.Need-returns-4
 unfolding unitsOutcome toUnitsOutcome
@@ -73,9 +66,9 @@ to-units-spec =
     returns
     slice-aggregate-row
     first-not-point-requires
-    mul-needed
+    (λ c. search needs)
     returns-2
     returns-3
     put-units-requires
-    same-length
+    (λ c. search needs)
     returns-4)

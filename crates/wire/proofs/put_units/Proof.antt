@@ -18,36 +18,6 @@ abbrev μ-loop : tie.MeasureT-loop
 loop-holds : tie.Need-loop-holds Inv-loop μ-loop
 loop-holds c = (storing-all _ _, omega arith)
 
-mul-unit-of : tie.Need-mul-unit-of Inv-loop μ-loop
-mul-unit-of c = search needs
-
-shared-slice-read-unit-of : tie.Need-shared-slice-read-unit-of Inv-loop μ-loop
-shared-slice-read-unit-of c = search needs
-
-mul-unit-of-2 : tie.Need-mul-unit-of-2 Inv-loop μ-loop
-mul-unit-of-2 c = search needs
-
-add-unit-of : tie.Need-add-unit-of Inv-loop μ-loop
-add-unit-of c = search needs
-
-shared-slice-read-unit-of-2 : tie.Need-shared-slice-read-unit-of-2 Inv-loop μ-loop
-shared-slice-read-unit-of-2 c = search needs
-
-unit-of-requires : tie.Need-unit-of-requires Inv-loop μ-loop
-unit-of-requires c κs = search needs
-
-mul-units : tie.Need-mul-units Inv-loop μ-loop
-mul-units c = search needs
-
-slice-write-units : tie.Need-slice-write-units Inv-loop μ-loop
-slice-write-units c = search needs
-
-add-i : tie.Need-add-i Inv-loop μ-loop
-add-i c = search needs
-
-loop-less : tie.Need-loop-less Inv-loop μ-loop
-loop-less c = search needs
-
 loop-again : tie.Need-loop-again Inv-loop μ-loop
 loop-again c = (unit-turn _ _ _ _ (c .before .before .before .before .loop .inv .0) (omega arith) _ (c .unit-of .ensures), omega arith)
 
@@ -64,16 +34,16 @@ put-units-spec =
     Inv-loop
     μ-loop
     loop-holds
-    mul-unit-of
-    shared-slice-read-unit-of
-    mul-unit-of-2
-    add-unit-of
-    shared-slice-read-unit-of-2
-    unit-of-requires
-    mul-units
-    slice-write-units
-    add-i
-    loop-less
+    (λ c. search needs)
+    (λ c. search needs)
+    (λ c. search needs)
+    (λ c. search needs)
+    (λ c. search needs)
+    (λ c κs. search needs)
+    (λ c. search needs)
+    (λ c. search needs)
+    (λ c. search needs)
+    (λ c. search needs)
     loop-again
     same-length
     returns)

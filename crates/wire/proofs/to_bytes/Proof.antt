@@ -4,27 +4,18 @@ use mathlib.Core.Logic.{inl, inr}
 use lib.Seq.{length-take-le}
 use borrow.Author.Needs.{needs}
 use native.Mathlib.Omega.{arith}
-use Rattle.basis.specs.Outcome.{numberOf, bytesOutcome}
+use Rattle.basis.specs.Outcome.{bytesOutcome}
 use Rattle.basis.proofs.Outcome.{refusal-leaves, done-leaves}
 use Rattle.wire.proofs.Refusals.{no-bytes, bytes-done}
 use Rattle.wire.proofs.to_bytes.Statement.{statement}
 use Rattle.wire.proofs.to_bytes.Tie as tie
 
-bytes-error-requires : tie.Need-bytes-error-requires
-bytes-error-requires c κs = search needs
-
 returns : tie.Need-returns
-unfolding bytesOutcome numberOf
+unfolding bytesOutcome
 returns c = refusal-leaves _ _ _ _ _ _ (ap bytesOutcome (c .bytes-error .ensures)) (no-bytes _ _ _ (inl (c .before .if1 .taken)))
 
-mul-if2 : tie.Need-mul-if2
-mul-if2 c = search needs
-
-bytes-error-requires-2 : tie.Need-bytes-error-requires-2
-bytes-error-requires-2 c κs = search needs
-
 returns-2 : tie.Need-returns-2
-unfolding bytesOutcome numberOf
+unfolding bytesOutcome
 returns-2 c = refusal-leaves _ _ _ _ _ _ (ap bytesOutcome (c .bytes-error2 .ensures)) (no-bytes _ _ _ (inr (c .before .if2 .taken)))
 
 slice-aggregate-put-bytes : tie.Need-slice-aggregate-put-bytes
@@ -32,9 +23,6 @@ slice-aggregate-put-bytes c = sym (length-take-le _ _ (omega arith))
 
 put-bytes-requires : tie.Need-put-bytes-requires
 put-bytes-requires c κs = let h = c .before .before .before .if1 .left in rw length-take-le (omega arith)
-
-same-length : tie.Need-same-length
-same-length c = search needs
 
 returns-3 : tie.Need-returns-3
 unfolding bytesOutcome
@@ -46,12 +34,12 @@ pub to-bytes-spec : {M : Type 1} → statement M
 to-bytes-spec =
     tie.close
     (tie.spec
-    bytes-error-requires
+    (λ c κs. search needs)
     returns
-    mul-if2
-    bytes-error-requires-2
+    (λ c. search needs)
+    (λ c κs. search needs)
     returns-2
     slice-aggregate-put-bytes
     put-bytes-requires
-    same-length
+    (λ c. search needs)
     returns-3)

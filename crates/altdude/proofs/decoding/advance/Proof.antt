@@ -5,12 +5,6 @@ use Rattle.altdude.proofs.DecodeLaws.{stop-open, goes-hyphen, stop-fore
 use Rattle.altdude.proofs.decoding.advance.Statement.{statement}
 use Rattle.altdude.proofs.decoding.advance.Tie as tie
 
-close-group-requires : tie.Need-close-group-requires
-close-group-requires c κs = search needs
-
-returns : tie.Need-returns
-returns c = search needs
-
 returns-2 : tie.Need-returns-2
 returns-2 c = goes-hyphen _ _ _ (c .before .if2 .taken) (c .before .before .before .pre .0) (c .if3 .taken)
 
@@ -19,12 +13,6 @@ returns-3 c = stop-open _ _ _ (c .before .if2 .taken) (c .if3 .left)
 
 returns-4 : tie.Need-returns-4
 returns-4 c = stop-foreign _ _ _ (c .before .before .if1 .left) (c .before .if2 .left) (c .if4 .taken)
-
-mul-value : tie.Need-mul-value
-mul-value c = search needs
-
-add-value : tie.Need-add-value
-add-value c = search needs
 
 returns-5 : tie.Need-returns-5
 returns-5 c = stop-zero _ _ _ (c .before .before .before .if1 .left) (c .before .before .if2 .left) (c .if5 .taken)
@@ -45,13 +33,13 @@ pub advance-spec : {M : Type 1} → statement M
 advance-spec =
     tie.close
     (tie.spec
-    close-group-requires
-    returns
+    (λ c κs. search needs)
+    (λ c. search needs)
     returns-2
     returns-3
     returns-4
-    mul-value
-    add-value
+    (λ c. search needs)
+    (λ c. search needs)
     returns-5
     returns-6
     returns-7)

@@ -4,15 +4,6 @@ use Rattle.altdude.proofs.DecodeLaws.{stop-no-point, stop-point-45, goe
 use Rattle.altdude.proofs.decoding.close_group.Statement.{statement}
 use Rattle.altdude.proofs.decoding.close_group.Tie as tie
 
-mul-point : tie.Need-mul-point
-mul-point c = search needs
-
-add-point : tie.Need-add-point
-add-point c = search needs
-
-is-point-requires : tie.Need-is-point-requires
-is-point-requires c κs = search needs
-
 returns : tie.Need-returns
 returns c = stop-no-point _ _ _ (c .before .before .pre .2) _ (c .before .is-point .ensures) (c .if1 .taken)
 
@@ -26,4 +17,4 @@ returns-3 c =
 
 pub close-group-spec : {M : Type 1} → statement M
 close-group-spec =
-    tie.close (tie.spec mul-point add-point is-point-requires returns returns-2 returns-3)
+    tie.close (tie.spec (λ c. search needs) (λ c. search needs) (λ c κs. search needs) returns returns-2 returns-3)

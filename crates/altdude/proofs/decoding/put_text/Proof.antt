@@ -20,23 +20,11 @@ abbrev μ-loop : tie.MeasureT-loop
 loop-holds : tie.Need-loop-holds Inv-loop μ-loop
 loop-holds c = (reading-start _ _ (sym (c .before .before .pre .0)), putting-start _ _)
 
-shared-slice-read-symbol-of : tie.Need-shared-slice-read-symbol-of Inv-loop μ-loop
-shared-slice-read-symbol-of c = search needs
-
-symbol-of-requires : tie.Need-symbol-of-requires Inv-loop μ-loop
-symbol-of-requires c κs = search needs
-
 cast-symbol : tie.Need-cast-symbol Inv-loop μ-loop
 cast-symbol c = omega (arith, symbol-small _ _ (c .symbol-of .ensures))
 
 advance-requires : tie.Need-advance-requires Inv-loop μ-loop
 advance-requires c κs = omega (arith, symbol-small _ _ (c .symbol-of .ensures))
-
-enum-known-next : tie.Need-enum-known-next Inv-loop μ-loop
-enum-known-next c = search needs
-
-enum-told : tie.Need-enum-told Inv-loop μ-loop
-enum-told c = search needs
 
 same-length : tie.Need-same-length Inv-loop μ-loop
 same-length c = c .before .before .before .before .before .before .loop .inv .1 .storing .long
@@ -53,12 +41,6 @@ put-symbol-requires : tie.Need-put-symbol-requires Inv-loop μ-loop
 put-symbol-requires c κs =
     let l = c .before .before .before .before .before .before .before .before .loop in
     omega (arith, l .inv .1 .behind, l .inv .1 .storing .long)
-
-add-i : tie.Need-add-i Inv-loop μ-loop
-add-i c = search needs
-
-loop-less : tie.Need-loop-less Inv-loop μ-loop
-loop-less c = omega arith
 
 loop-again : tie.Need-loop-again Inv-loop μ-loop
 loop-again c =
@@ -82,17 +64,17 @@ put-text-spec =
     Inv-loop
     μ-loop
     loop-holds
-    shared-slice-read-symbol-of
-    symbol-of-requires
+    (λ c. search needs)
+    (λ c κs. search needs)
     cast-symbol
     advance-requires
-    enum-known-next
-    enum-told
+    (λ c. search needs)
+    (λ c. search needs)
     same-length
     returns
     put-symbol-requires
-    add-i
-    loop-less
+    (λ c. search needs)
+    (λ c. omega arith)
     loop-again
     same-length-2
     returns-2)

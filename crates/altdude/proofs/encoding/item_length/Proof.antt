@@ -11,9 +11,6 @@ use Rattle.altdude.proofs.encoding.item_length.Tie as tie
 returns : tie.Need-returns
 returns c = (sym (hyphen-length _ _ (c .if1 .taken)), omega arith)
 
-group-length-requires : tie.Need-group-length-requires
-group-length-requires c κs = search needs
-
 returns-2 : tie.Need-returns-2
 returns-2 c =
     let a = c .before .before in (
@@ -22,4 +19,4 @@ returns-2 c =
     )
 
 pub item-length-spec : {M : Type 1} → statement M
-item-length-spec = tie.close (tie.spec returns group-length-requires returns-2)
+item-length-spec = tie.close (tie.spec returns (λ c κs. search needs) returns-2)

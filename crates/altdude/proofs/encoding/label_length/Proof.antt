@@ -18,31 +18,10 @@ abbrev μ-loop : tie.MeasureT-loop
 loop-holds : tie.Need-loop-holds Inv-loop μ-loop
 loop-holds c = (count-start _, omega arith, omega arith)
 
-mul-point : tie.Need-mul-point Inv-loop μ-loop
-mul-point c = search needs
-
-shared-slice-read-point : tie.Need-shared-slice-read-point Inv-loop μ-loop
-shared-slice-read-point c = search needs
-
-item-length-requires : tie.Need-item-length-requires Inv-loop μ-loop
-item-length-requires c κs = search needs
-
-add-n : tie.Need-add-n Inv-loop μ-loop
-add-n c = search needs
-
 returns : tie.Need-returns Inv-loop μ-loop
 returns c =
     let l = c .before .before .before .before in
     omega (arith, item-within _ _ _ (c .before .before .before .loop-test .taken) _ _ (l .loop .inv .0))
-
-remembered-after-requires : tie.Need-remembered-after-requires Inv-loop μ-loop
-remembered-after-requires c κs = search needs
-
-add-i : tie.Need-add-i Inv-loop μ-loop
-add-i c = search needs
-
-loop-less : tie.Need-loop-less Inv-loop μ-loop
-loop-less c = search needs
 
 loop-again : tie.Need-loop-again Inv-loop μ-loop
 loop-again c =
@@ -62,13 +41,13 @@ label-length-spec =
     Inv-loop
     μ-loop
     loop-holds
-    mul-point
-    shared-slice-read-point
-    item-length-requires
-    add-n
+    (λ c. search needs)
+    (λ c. search needs)
+    (λ c κs. search needs)
+    (λ c. search needs)
     returns
-    remembered-after-requires
-    add-i
-    loop-less
+    (λ c κs. search needs)
+    (λ c. search needs)
+    (λ c. search needs)
     loop-again
     returns-2)

@@ -22,20 +22,8 @@ Inv-loop x label₀ at end j₀ y₀ label j y =
 abbrev μ-loop : tie.MeasureT-loop
 μ-loop x label₀ at end j₀ y₀ label j y = y
 
-group-length-requires : tie.Need-group-length-requires Inv-loop μ-loop
-group-length-requires c κs = search needs
-
-add-end : tie.Need-add-end Inv-loop μ-loop
-add-end c = search needs
-
 sub-j : tie.Need-sub-j Inv-loop μ-loop
 sub-j c = omega (arith, group-length (c .before .before .args .x))
-
-cast-byte-of : tie.Need-cast-byte-of Inv-loop μ-loop
-cast-byte-of c = search needs
-
-byte-of-requires : tie.Need-byte-of-requires Inv-loop μ-loop
-byte-of-requires c κs = search needs
 
 slice-write-label : tie.Need-slice-write-label Inv-loop μ-loop
 slice-write-label c = omega (arith, group-length (c .before .before .before .args .x))
@@ -46,20 +34,8 @@ loop-holds c = (refl, omega (arith, group-length (c .before .before .before .arg
 sub-j-2 : tie.Need-sub-j-2 Inv-loop μ-loop
 sub-j-2 c = omega (arith, digits-length (c .before .loop .y) (c .loop-test .taken))
 
-add-byte-of : tie.Need-add-byte-of Inv-loop μ-loop
-add-byte-of c = search needs
-
-cast-byte-of-2 : tie.Need-cast-byte-of-2 Inv-loop μ-loop
-cast-byte-of-2 c = search needs
-
-byte-of-requires-2 : tie.Need-byte-of-requires-2 Inv-loop μ-loop
-byte-of-requires-2 c κs = search needs
-
 slice-write-label-2 : tie.Need-slice-write-label-2 Inv-loop μ-loop
 slice-write-label-2 c = omega (arith, digits-length (c .before .before .loop .y) (c .before .loop-test .taken))
-
-loop-less : tie.Need-loop-less Inv-loop μ-loop
-loop-less c = omega arith
 
 loop-again : tie.Need-loop-again Inv-loop μ-loop
 loop-again c =
@@ -89,19 +65,19 @@ put-group-spec =
     (tie.spec
     Inv-loop
     μ-loop
-    group-length-requires
-    add-end
+    (λ c κs. search needs)
+    (λ c. search needs)
     sub-j
-    cast-byte-of
-    byte-of-requires
+    (λ c. search needs)
+    (λ c κs. search needs)
     slice-write-label
     loop-holds
     sub-j-2
-    add-byte-of
-    cast-byte-of-2
-    byte-of-requires-2
+    (λ c. search needs)
+    (λ c. search needs)
+    (λ c κs. search needs)
     slice-write-label-2
-    loop-less
+    (λ c. omega arith)
     loop-again
     same-length
     returns)

@@ -8,20 +8,11 @@ use Rattle.altdude.proofs.encoding.put_item.Tie as tie
 slice-write-label : tie.Need-slice-write-label
 slice-write-label c = omega (arith, hyphen-length (c .before .before .args .remembered) (c .before .before .args .point) (c .if1 .taken))
 
-add-result : tie.Need-add-result
-add-result c = search needs
-
-same-length : tie.Need-same-length
-same-length c = search needs
-
 returns : tie.Need-returns
 returns c = (rw (hyphen-length _ _ (c .if1 .taken)), put-hyphen _ _ (c .if1 .taken) _ _)
 
 put-group-requires : tie.Need-put-group-requires
 put-group-requires c κs = rw (item-group _ _ (c .before .if1 .left)) at (c .before .before .before .pre)
-
-same-length-2 : tie.Need-same-length-2
-same-length-2 c = search needs
 
 returns-2 : tie.Need-returns-2
 returns-2 c =
@@ -34,9 +25,9 @@ put-item-spec =
     tie.close
     (tie.spec
     slice-write-label
-    add-result
-    same-length
+    (λ c. search needs)
+    (λ c. search needs)
     returns
     put-group-requires
-    same-length-2
+    (λ c. search needs)
     returns-2)

@@ -9,12 +9,9 @@ returns : tie.Need-returns
 unfolding byteOf
 returns c = rw (eq-eqb _ 45 (c .if1 .taken))
 
-altdude-character-requires : tie.Need-altdude-character-requires
-altdude-character-requires c κs = search needs
-
 returns-2 : tie.Need-returns-2
 unfolding byteOf
 returns-2 c = rw (ne-eqb _ 45 (c .before .if1 .left)) (c .altdude-character .ensures)
 
 pub byte-of-spec : {M : Type 1} → statement M
-byte-of-spec = tie.close (tie.spec returns altdude-character-requires returns-2)
+byte-of-spec = tie.close (tie.spec returns (λ c κs. search needs) returns-2)

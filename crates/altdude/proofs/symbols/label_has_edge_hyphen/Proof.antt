@@ -4,17 +4,8 @@ use Rattle.altdude.proofs.EdgeTests.{edge-first, edge-last}
 use Rattle.altdude.proofs.symbols.label_has_edge_hyphen.Statement.{statement}
 use Rattle.altdude.proofs.symbols.label_has_edge_hyphen.Tie as tie
 
-shared-slice-read-if1 : tie.Need-shared-slice-read-if1
-shared-slice-read-if1 c = search needs
-
 returns : tie.Need-returns
 returns c = edge-first _ (c .if1 .taken)
-
-sub-result : tie.Need-sub-result
-sub-result c = search needs
-
-shared-slice-read-result : tie.Need-shared-slice-read-result
-shared-slice-read-result c = search needs
 
 returns-2 : tie.Need-returns-2
 returns-2 c = edge-last _ (c .before .if1 .left)
@@ -22,4 +13,4 @@ returns-2 c = edge-last _ (c .before .if1 .left)
 pub label-has-edge-hyphen-spec : {M : Type 1} → statement M
 label-has-edge-hyphen-spec =
     tie.close
-    (tie.spec shared-slice-read-if1 returns sub-result shared-slice-read-result returns-2)
+    (tie.spec (λ c. search needs) returns (λ c. search needs) (λ c. search needs) returns-2)

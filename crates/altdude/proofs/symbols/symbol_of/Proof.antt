@@ -7,11 +7,8 @@ use Rattle.altdude.proofs.symbols.symbol_of.Tie as tie
 returns : tie.Need-returns
 returns c = symbol-hyphen _ (c .if1 .taken)
 
-altdude-value-requires : tie.Need-altdude-value-requires
-altdude-value-requires c κs = search needs
-
 returns-2 : tie.Need-returns-2
 returns-2 c = symbol-value _ _ (c .before .if1 .left) (c .altdude-value .ensures)
 
 pub symbol-of-spec : {M : Type 1} → statement M
-symbol-of-spec = tie.close (tie.spec returns altdude-value-requires returns-2)
+symbol-of-spec = tie.close (tie.spec returns (λ c κs. search needs) returns-2)

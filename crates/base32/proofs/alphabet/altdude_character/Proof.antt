@@ -7,9 +7,6 @@ use Rattle.base32.specs.Alphabet.{altdude, characterOf}
 use Rattle.base32.proofs.alphabet.altdude_character.Statement.{statement}
 use Rattle.base32.proofs.alphabet.altdude_character.Tie as tie
 
-array-read-result : tie.Need-array-read-result
-array-read-result c = search needs
-
 returns : tie.Need-returns
 unfolding characterOf altdude
 returns c = refl
@@ -19,4 +16,4 @@ unfolding characterOf altdude
 returns-2 c = sym (at-past altdude (c .before .args .quintet) (omega arith))
 
 pub altdude-character-spec : {M : Type 1} → statement M
-altdude-character-spec = tie.close (tie.spec array-read-result returns returns-2)
+altdude-character-spec = tie.close (tie.spec (λ c. search needs) returns returns-2)

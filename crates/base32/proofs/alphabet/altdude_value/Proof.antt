@@ -6,15 +6,6 @@ use Rattle.base32.proofs.Inverse.{place-value, value-le, altdude-alphab
 use Rattle.base32.proofs.alphabet.altdude_value.Statement.{statement}
 use Rattle.base32.proofs.alphabet.altdude_value.Tie as tie
 
-slice-aggregate-place : tie.Need-slice-aggregate-place
-slice-aggregate-place c = search needs
-
-small-form-requires : tie.Need-small-form-requires
-small-form-requires c κs = search needs
-
-place-requires : tie.Need-place-requires
-place-requires c κs = search needs
-
 returns : tie.Need-returns
 unfolding altdude
 returns c = place-value altdude _ _ _ (c .before .small-form .ensures) (c .place .ensures)
@@ -25,4 +16,4 @@ cast-result c = omega (arith, returns c, value-le altdude altdude-alphabet (c .b
 pub altdude-value-spec : {M : Type 1} → statement M
 altdude-value-spec =
     tie.close
-    (tie.spec slice-aggregate-place small-form-requires place-requires cast-result returns)
+    (tie.spec (λ c. search needs) (λ c κs. search needs) (λ c κs. search needs) cast-result returns)

@@ -22,23 +22,11 @@ abbrev μ-loop : tie.MeasureT-loop
 loop-holds : tie.Need-loop-holds Inv-loop μ-loop
 loop-holds c = (omega arith, below-none _)
 
-shared-slice-read-lace-value : tie.Need-shared-slice-read-lace-value Inv-loop μ-loop
-shared-slice-read-lace-value c = search needs
-
-lace-value-requires : tie.Need-lace-value-requires Inv-loop μ-loop
-lace-value-requires c κs = search needs
-
 returns : tie.Need-returns Inv-loop μ-loop
 unfolding firstOutside
 returns c =
     let l = c .before .before .before .before .loop in
     sym (first-at _ _ (l .i) (omega arith) (no-character lace _ _ (c .before .lace-value .ensures) (c .if1 .taken)) (l .inv .1))
-
-add-i : tie.Need-add-i Inv-loop μ-loop
-add-i c = search needs
-
-loop-less : tie.Need-loop-less Inv-loop μ-loop
-loop-less c = search needs
 
 loop-again : tie.Need-loop-again Inv-loop μ-loop
 loop-again c =
@@ -57,10 +45,10 @@ first-outside-lace-spec =
     Inv-loop
     μ-loop
     loop-holds
-    shared-slice-read-lace-value
-    lace-value-requires
+    (λ c. search needs)
+    (λ c κs. search needs)
     returns
-    add-i
-    loop-less
+    (λ c. search needs)
+    (λ c. search needs)
     loop-again
     returns-2)

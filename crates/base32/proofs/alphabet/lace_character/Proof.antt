@@ -7,9 +7,6 @@ use Rattle.base32.specs.Alphabet.{lace, characterOf}
 use Rattle.base32.proofs.alphabet.lace_character.Statement.{statement}
 use Rattle.base32.proofs.alphabet.lace_character.Tie as tie
 
-array-read-result : tie.Need-array-read-result
-array-read-result c = search needs
-
 returns : tie.Need-returns
 unfolding characterOf lace
 returns c = refl
@@ -19,4 +16,4 @@ unfolding characterOf lace
 returns-2 c = sym (at-past lace (c .before .args .quintet) (omega arith))
 
 pub lace-character-spec : {M : Type 1} → statement M
-lace-character-spec = tie.close (tie.spec array-read-result returns returns-2)
+lace-character-spec = tie.close (tie.spec (λ c. search needs) returns returns-2)

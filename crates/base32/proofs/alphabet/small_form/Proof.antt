@@ -12,11 +12,8 @@ returns c = sym (small-below (c .before .args .byte) (omega arith))
 returns-2 : tie.Need-returns-2
 returns-2 c = sym (small-above (c .before .before .args .byte) (omega arith))
 
-add-result : tie.Need-add-result
-add-result c = search needs
-
 returns-3 : tie.Need-returns-3
 returns-3 c = sym (small-inside (c .before .before .args .byte) (omega arith) (omega arith))
 
 pub small-form-spec : {M : Type 1} → statement M
-small-form-spec = tie.close (tie.spec returns returns-2 add-result returns-3)
+small-form-spec = tie.close (tie.spec returns returns-2 (λ c. search needs) returns-3)

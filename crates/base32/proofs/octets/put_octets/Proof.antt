@@ -29,22 +29,10 @@ loop-holds c = (omega arith, refl, refl)
 octet-requires : tie.Need-octet-requires Inv-loop μ-loop
 octet-requires c κs = (omega arith, c .before .before .before .before .pre .1 .1)
 
-slice-write-octets : tie.Need-slice-write-octets Inv-loop μ-loop
-slice-write-octets c = omega arith
-
-add-i : tie.Need-add-i Inv-loop μ-loop
-add-i c = search needs
-
-loop-less : tie.Need-loop-less Inv-loop μ-loop
-loop-less c = search needs
-
 loop-again : tie.Need-loop-again Inv-loop μ-loop
 loop-again c =
     let l = c .before .before .loop in
     (omega arith, simp length-set (l .inv .1), fill-more _ _ _ (l .i) _ (omega arith) (c .octet .ensures) (l .inv .2))
-
-same-length : tie.Need-same-length Inv-loop μ-loop
-same-length c = search needs
 
 returns : tie.Need-returns Inv-loop μ-loop
 returns c =
@@ -59,9 +47,9 @@ put-octets-spec =
     μ-loop
     loop-holds
     octet-requires
-    slice-write-octets
-    add-i
-    loop-less
+    (λ c. omega arith)
+    (λ c. search needs)
+    (λ c. search needs)
     loop-again
-    same-length
+    (λ c. search needs)
     returns)

@@ -10,15 +10,6 @@ use Rattle.base32.proofs.Values.{length-values, at-values}
 use Rattle.base32.proofs.octets.value_at.Statement.{statement}
 use Rattle.base32.proofs.octets.value_at.Tie as tie
 
-shared-slice-read-lace-value : tie.Need-shared-slice-read-lace-value
-shared-slice-read-lace-value c = search needs
-
-lace-value-requires : tie.Need-lace-value-requires
-lace-value-requires c κs = search needs
-
-cast-result : tie.Need-cast-result
-cast-result c = search needs
-
 returns : tie.Need-returns
 returns c =
     let a = c .before .before .before .before .args in
@@ -32,4 +23,4 @@ returns-2 c =
 pub value-at-spec : {M : Type 1} → statement M
 value-at-spec =
     tie.close
-    (tie.spec shared-slice-read-lace-value lace-value-requires cast-result returns returns-2)
+    (tie.spec (λ c. search needs) (λ c κs. search needs) (λ c. search needs) returns returns-2)

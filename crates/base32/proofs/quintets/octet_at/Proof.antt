@@ -6,9 +6,6 @@ use Rattle.basis.proofs.Lists.{at-past}
 use Rattle.base32.proofs.quintets.octet_at.Statement.{statement}
 use Rattle.base32.proofs.quintets.octet_at.Tie as tie
 
-shared-slice-read-result : tie.Need-shared-slice-read-result
-shared-slice-read-result c = search needs
-
 cast-result : tie.Need-cast-result
 cast-result c = omega (arith, c .shared-slice-known .given (c .before .before .args .i))
 
@@ -19,4 +16,4 @@ returns-2 : tie.Need-returns-2
 returns-2 c = (sym (at-past (c .before .args .octets .now) (c .before .args .i) (omega arith)), search needs)
 
 pub octet-at-spec : {M : Type 1} → statement M
-octet-at-spec = tie.close (tie.spec shared-slice-read-result cast-result returns returns-2)
+octet-at-spec = tie.close (tie.spec (λ c. search needs) cast-result returns returns-2)

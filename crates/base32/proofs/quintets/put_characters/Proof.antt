@@ -26,28 +26,10 @@ loop-holds : tie.Need-loop-holds Inv-loop μ-loop
 unfolding tabulate
 loop-holds c = (omega arith, refl, refl)
 
-quintet-requires : tie.Need-quintet-requires Inv-loop μ-loop
-quintet-requires c κs = search needs
-
-lace-character-requires : tie.Need-lace-character-requires Inv-loop μ-loop
-lace-character-requires c κs = search needs
-
-slice-write-characters : tie.Need-slice-write-characters Inv-loop μ-loop
-slice-write-characters c = omega arith
-
-add-i : tie.Need-add-i Inv-loop μ-loop
-add-i c = search needs
-
-loop-less : tie.Need-loop-less Inv-loop μ-loop
-loop-less c = search needs
-
 loop-again : tie.Need-loop-again Inv-loop μ-loop
 loop-again c =
     let l = c .before .before .before .loop in
     (omega arith, simp length-set (l .inv .1), fill-more _ _ _ (l .i) _ (omega arith) (c .lace-character .ensures ∙ ap (characterOf lace) (c .before .quintet .ensures)) (l .inv .2))
-
-same-length : tie.Need-same-length Inv-loop μ-loop
-same-length c = search needs
 
 returns : tie.Need-returns Inv-loop μ-loop
 returns c =
@@ -61,11 +43,11 @@ put-characters-spec =
     Inv-loop
     μ-loop
     loop-holds
-    quintet-requires
-    lace-character-requires
-    slice-write-characters
-    add-i
-    loop-less
+    (λ c κs. search needs)
+    (λ c κs. search needs)
+    (λ c. omega arith)
+    (λ c. search needs)
+    (λ c. search needs)
     loop-again
-    same-length
+    (λ c. search needs)
     returns)

@@ -8,15 +8,6 @@ use borrow.Author.Needs.{needs}
 use Rattle.bench_list.proofs.answers.answer_line.Statement.{statement}
 use Rattle.bench_list.proofs.answers.answer_line.Tie as tie
 
-slice-aggregate-distelhut-read : tie.Need-slice-aggregate-distelhut-read
-slice-aggregate-distelhut-read c = search needs
-
-distelhut-read-requires : tie.Need-distelhut-read-requires
-distelhut-read-requires c κs = search needs
-
-cast-n : tie.Need-cast-n
-cast-n c = search needs
-
 array-share-prefix-text : tie.Need-array-share-prefix-text
 array-share-prefix-text c =
     let d = c .before .before .distelhut-read in
@@ -32,12 +23,6 @@ text-line-requires c κs =
     let d = c .before .before .before .before .distelhut-read in
     read-below _ _ _ _ (d .ensures .0) (d .ensures .1) (c .before .before .if1 .taken) .bytes
 
-bytes-written-requires : tie.Need-bytes-written-requires
-bytes-written-requires c κs = search needs
-
-same-length : tie.Need-same-length
-same-length c = search needs
-
 returns : tie.Need-returns
 returns c =
     let t = c .before .before .before in
@@ -46,15 +31,6 @@ returns c =
     let a = c .before .before .before .before .before .before .before .before .before .before .before .before .args in
     line-written _ (a .out .now) (benchLine (a .label .now)) (read-below _ _ _ _ (d .ensures .0) (d .ensures .1) (k .if1 .taken) .line) (omega (arith, line-fits (a .label .now))) _ _ (t .text-line .ensures) _
     (c .bytes-written .ensures)
-
-refused-line-requires : tie.Need-refused-line-requires
-refused-line-requires c κs = search needs
-
-bytes-written-requires-2 : tie.Need-bytes-written-requires-2
-bytes-written-requires-2 c κs = search needs
-
-same-length-2 : tie.Need-same-length-2
-same-length-2 c = search needs
 
 returns-2 : tie.Need-returns-2
 returns-2 c =
@@ -69,16 +45,16 @@ pub answer-line-spec : {M : Type 1} → statement M
 answer-line-spec =
     tie.close
     (tie.spec
-    slice-aggregate-distelhut-read
-    distelhut-read-requires
-    cast-n
+    (λ c. search needs)
+    (λ c κs. search needs)
+    (λ c. search needs)
     array-share-prefix-text
     slice-aggregate-text-line
     text-line-requires
-    bytes-written-requires
-    same-length
+    (λ c κs. search needs)
+    (λ c. search needs)
     returns
-    refused-line-requires
-    bytes-written-requires-2
-    same-length-2
+    (λ c κs. search needs)
+    (λ c κs. search needs)
+    (λ c. search needs)
     returns-2)

@@ -6,24 +6,6 @@ use borrow.Author.Needs.{needs}
 use Rattle.bench_list.proofs.answers.text_line.Statement.{statement}
 use Rattle.bench_list.proofs.answers.text_line.Tie as tie
 
-slice-aggregate-to-units : tie.Need-slice-aggregate-to-units
-slice-aggregate-to-units c = search needs
-
-to-units-requires : tie.Need-to-units-requires
-to-units-requires c κs = search needs
-
-enum-known-answer : tie.Need-enum-known-answer
-enum-known-answer c = search needs
-
-bytes-error-requires : tie.Need-bytes-error-requires
-bytes-error-requires c κs = search needs
-
-enum-known-answer-2 : tie.Need-enum-known-answer-2
-enum-known-answer-2 c = search needs
-
-slice-aggregate-units-line : tie.Need-slice-aggregate-units-line
-slice-aggregate-units-line c = search needs
-
 units-line-requires : tie.Need-units-line-requires
 unfolding unitsOutcome
 units-line-requires c κs =
@@ -38,9 +20,6 @@ returns c =
     let t = c .before .before .before .before .before .before .before .before .before .pre in
     absurd (bytes-never-refused _ t _ _ (sym (u .ensures .0) ∙ ap unitsOutcome (c .before .before .answer .given .1)))
 
-same-length : tie.Need-same-length
-same-length c = search needs
-
 returns-2 : tie.Need-returns-2
 unfolding unitsOutcome
 returns-2 c =
@@ -54,13 +33,13 @@ pub text-line-spec : {M : Type 1} → statement M
 text-line-spec =
     tie.close
     (tie.spec
-    slice-aggregate-to-units
-    to-units-requires
-    enum-known-answer
-    bytes-error-requires
-    enum-known-answer-2
-    slice-aggregate-units-line
+    (λ c. search needs)
+    (λ c κs. search needs)
+    (λ c. search needs)
+    (λ c κs. search needs)
+    (λ c. search needs)
+    (λ c. search needs)
     units-line-requires
     returns
-    same-length
+    (λ c. search needs)
     returns-2)

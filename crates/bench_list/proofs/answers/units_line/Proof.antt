@@ -9,21 +9,6 @@ use borrow.Author.Needs.{needs}
 use Rattle.bench_list.proofs.answers.units_line.Statement.{statement}
 use Rattle.bench_list.proofs.answers.units_line.Tie as tie
 
-slice-aggregate-to-points : tie.Need-slice-aggregate-to-points
-slice-aggregate-to-points c = search needs
-
-to-points-requires : tie.Need-to-points-requires
-to-points-requires c κs = search needs
-
-enum-known-answer : tie.Need-enum-known-answer
-enum-known-answer c = search needs
-
-bytes-error-requires : tie.Need-bytes-error-requires
-bytes-error-requires c κs = search needs
-
-enum-known-answer-2 : tie.Need-enum-known-answer-2
-enum-known-answer-2 c = search needs
-
 array-share-prefix-points : tie.Need-array-share-prefix-points
 unfolding pointsOutcome
 array-share-prefix-points c =
@@ -38,18 +23,12 @@ slice-aggregate-points-line c =
     let is = sym (p .ensures .0) ∙ ap pointsOutcome (c .before .before .answer2 .given .1) in
     values-long _ _ _ _ _ is (points-count _ _ _ (omega arith) (omega arith) _ is) (p .ensures .1)
 
-points-line-requires : tie.Need-points-line-requires
-points-line-requires c κs = search needs
-
 returns : tie.Need-returns
 unfolding pointsOutcome
 returns c =
     let p = c .before .before .before .before .before .to-points in
     let pre = c .before .before .before .before .before .before .before .before .before .pre in
     absurd (units-never-refused _ _ (pre .0) (pre .1 .0) (pre .1 .1) _ _ (sym (p .ensures .0) ∙ ap pointsOutcome (c .before .before .answer .given .1)))
-
-same-length : tie.Need-same-length
-same-length c = search needs
 
 returns-2 : tie.Need-returns-2
 unfolding pointsOutcome
@@ -65,14 +44,14 @@ pub units-line-spec : {M : Type 1} → statement M
 units-line-spec =
     tie.close
     (tie.spec
-    slice-aggregate-to-points
-    to-points-requires
-    enum-known-answer
-    bytes-error-requires
-    enum-known-answer-2
+    (λ c. search needs)
+    (λ c κs. search needs)
+    (λ c. search needs)
+    (λ c κs. search needs)
+    (λ c. search needs)
     array-share-prefix-points
     slice-aggregate-points-line
-    points-line-requires
+    (λ c κs. search needs)
     returns
-    same-length
+    (λ c. search needs)
     returns-2)

@@ -18,12 +18,6 @@ abbrev μ-loop : tie.MeasureT-loop
 loop-holds : tie.Need-loop-holds Inv-loop μ-loop
 loop-holds c = answering-start _ _ _ _ (c .before .before .before .pre .0)
 
-next-line-requires : tie.Need-next-line-requires Inv-loop μ-loop
-next-line-requires c κs = search needs
-
-enum-known-step : tie.Need-enum-known-step Inv-loop μ-loop
-enum-known-step c = search needs
-
 same-length : tie.Need-same-length Inv-loop μ-loop
 same-length c = line-kept (c .before .before .before .before .before .before .before .before .loop .inv) _ (c .before .before .before .before .before .next-line .ensures .1)
 
@@ -34,9 +28,6 @@ returns : tie.Need-returns Inv-loop μ-loop
 returns c =
     let s = c .before .before .before .before .before in
     answering-rest (s .before .before .before .loop .inv) _ (s .next-line .ensures .1) _ _ (c .before .step .given .1) (s .next-line .ensures .0)
-
-enum-known-step-2 : tie.Need-enum-known-step-2 Inv-loop μ-loop
-enum-known-step-2 c = search needs
 
 slice-reshare-prefix-answer-line : tie.Need-slice-reshare-prefix-answer-line Inv-loop μ-loop
 slice-reshare-prefix-answer-line c =
@@ -55,9 +46,6 @@ sub-answer-line c = at-fits (c .before .before .before .before .before .before .
 
 part-answer-line-start : tie.Need-part-answer-line-start Inv-loop μ-loop
 part-answer-line-start c = sub-answer-line c
-
-part-answer-line-end : tie.Need-part-answer-line-end Inv-loop μ-loop
-part-answer-line-end c = search needs
 
 answer-line-requires : tie.Need-answer-line-requires Inv-loop μ-loop
 answer-line-requires c κs =
@@ -96,17 +84,17 @@ answer-chunk-spec =
     Inv-loop
     μ-loop
     loop-holds
-    next-line-requires
-    enum-known-step
+    (λ c κs. search needs)
+    (λ c. search needs)
     same-length
     same-length-2
     returns
-    enum-known-step-2
+    (λ c. search needs)
     slice-reshare-prefix-answer-line
     slice-aggregate-answer-line
     sub-answer-line
     part-answer-line-start
-    part-answer-line-end
+    (λ c. search needs)
     answer-line-requires
     add-at
     loop-less

@@ -6,36 +6,12 @@ use Rattle.firmware.proofs.ReadLaws.{never-refused, bytes-put}
 use Rattle.firmware.proofs.read.put_text.Statement.{statement}
 use Rattle.firmware.proofs.read.put_text.Tie as tie
 
-slice-aggregate-to-units : tie.Need-slice-aggregate-to-units
-slice-aggregate-to-units c = search needs
-
-to-units-requires : tie.Need-to-units-requires
-to-units-requires c κs = search needs
-
-enum-known-answer : tie.Need-enum-known-answer
-enum-known-answer c = search needs
-
-bytes-error-requires : tie.Need-bytes-error-requires
-bytes-error-requires c κs = search needs
-
-enum-known-answer-2 : tie.Need-enum-known-answer-2
-enum-known-answer-2 c = search needs
-
-slice-aggregate-to-bytes : tie.Need-slice-aggregate-to-bytes
-slice-aggregate-to-bytes c = search needs
-
-to-bytes-requires : tie.Need-to-bytes-requires
-to-bytes-requires c κs = search needs
-
 returns : tie.Need-returns
 unfolding unitsOutcome
 returns c =
     let u = c .before .before .before .before .before .to-units in
     let pre = c .before .before .before .before .before .before .before .before .before .pre in
     absurd (never-refused _ _ (pre .0) (pre .1 .0) (pre .1 .1 .0) _ _ (sym (u .ensures .0) ∙ ap unitsOutcome (c .before .before .answer .given .1)))
-
-same-length : tie.Need-same-length
-same-length c = search needs
 
 returns-2 : tie.Need-returns-2
 unfolding unitsOutcome
@@ -50,13 +26,13 @@ pub put-text-spec : {M : Type 1} → statement M
 put-text-spec =
     tie.close
     (tie.spec
-    slice-aggregate-to-units
-    to-units-requires
-    enum-known-answer
-    bytes-error-requires
-    enum-known-answer-2
-    slice-aggregate-to-bytes
-    to-bytes-requires
+    (λ c. search needs)
+    (λ c κs. search needs)
+    (λ c. search needs)
+    (λ c κs. search needs)
+    (λ c. search needs)
+    (λ c. search needs)
+    (λ c κs. search needs)
     returns
-    same-length
+    (λ c. search needs)
     returns-2)

@@ -4,7 +4,7 @@ use mathlib.Core.Path.{sym, ap, _∙_}
 use lib.ListN.{length}
 use native.Mathlib.Omega.{arith}
 use borrow.Author.Needs.{needs}
-use Rattle.basis.specs.Outcome.{bytesOutcome, numberOf}
+use Rattle.basis.specs.Outcome.{bytesOutcome}
 use Rattle.basis.proofs.Outcome.{stop-below, pass-below, stop-equal, pass-equal, refusal-leaves, handed-leaves, values-fit, values-are}
 use Rattle.utf16.specs.Units.{toPoints}
 use Rattle.utf16.specs.Answer.{unitsOutcome}
@@ -16,20 +16,20 @@ use Rattle.firmware.proofs.write.write_by.Statement.{statement}
 use Rattle.firmware.proofs.write.write_by.Tie as tie
 
 returns : tie.Need-returns
-unfolding bytesOutcome numberOf writeBy
+unfolding bytesOutcome writeBy
 returns c =
     let a = c .before .before .before .before .args in
     refusal-leaves _ _ _ _ 1 0 (ap bytesOutcome (c .bytes-error .ensures)) (stop-below 1 0 _ (length (a .label .now)) 63 (omega arith))
 
 returns-2 : tie.Need-returns-2
-unfolding bytesOutcome numberOf writeBy isOdd
+unfolding bytesOutcome writeBy isOdd
 returns-2 c =
     let a = c .before .before .before .before .before .args in
     refusal-leaves _ _ _ _ 12 0 (ap bytesOutcome (c .bytes-error2 .ensures))
     (pass-below 1 0 _ (length (a .label .now)) 63 (omega arith) ∙ stop-equal 12 0 _ (length (a .text .now) % 2) 1 (omega arith))
 
 returns-3 : tie.Need-returns-3
-unfolding bytesOutcome numberOf writeBy isOdd
+unfolding bytesOutcome writeBy isOdd
 returns-3 c =
     let a = c .before .before .before .before .before .before .args in
     let n = length (a .text .now) in
@@ -37,7 +37,7 @@ returns-3 c =
     (pass-below 1 0 _ (length (a .label .now)) 63 (omega arith) ∙ pass-equal 12 0 _ (n % 2) 1 (λ e. omega arith) ∙ stop-equal 2 0 _ n 0 (omega arith))
 
 returns-4 : tie.Need-returns-4
-unfolding bytesOutcome numberOf writeBy isOdd
+unfolding bytesOutcome writeBy isOdd
 returns-4 c =
     let a = c .before .before .before .before .before .before .before .args in
     let n = length (a .text .now) in

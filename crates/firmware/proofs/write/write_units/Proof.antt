@@ -9,21 +9,6 @@ use Rattle.firmware.proofs.WriteLaws.{points-count, units-refused, unit
 use Rattle.firmware.proofs.write.write_units.Statement.{statement}
 use Rattle.firmware.proofs.write.write_units.Tie as tie
 
-slice-aggregate-to-points : tie.Need-slice-aggregate-to-points
-slice-aggregate-to-points c = search needs
-
-to-points-requires : tie.Need-to-points-requires
-to-points-requires c κs = search needs
-
-enum-known-answer : tie.Need-enum-known-answer
-enum-known-answer c = search needs
-
-bytes-error-requires : tie.Need-bytes-error-requires
-bytes-error-requires c κs = search needs
-
-enum-known-answer-2 : tie.Need-enum-known-answer-2
-enum-known-answer-2 c = search needs
-
 array-share-prefix-points : tie.Need-array-share-prefix-points
 unfolding pointsOutcome
 array-share-prefix-points c =
@@ -38,17 +23,11 @@ slice-aggregate-encode c =
     let is = sym (p .ensures .0) ∙ ap pointsOutcome (c .before .before .answer2 .given .1) in
     values-long _ _ _ _ _ is (points-count _ _ _ (omega arith) (omega arith) _ is) (p .ensures .1)
 
-encode-requires : tie.Need-encode-requires
-encode-requires c κs = search needs
-
 returns : tie.Need-returns
 unfolding pointsOutcome bytesOutcome
 returns c =
     let p = c .before .before .before .before .before .to-points in
     units-refused _ _ _ (omega arith) (omega arith) _ _ _ _ (sym (p .ensures .0) ∙ ap pointsOutcome (c .before .before .answer .given .1)) _ (ap bytesOutcome (c .bytes-error .ensures))
-
-same-length : tie.Need-same-length
-same-length c = search needs
 
 returns-2 : tie.Need-returns-2
 unfolding pointsOutcome
@@ -64,14 +43,14 @@ pub write-units-spec : {M : Type 1} → statement M
 write-units-spec =
     tie.close
     (tie.spec
-    slice-aggregate-to-points
-    to-points-requires
-    enum-known-answer
-    bytes-error-requires
-    enum-known-answer-2
+    (λ c. search needs)
+    (λ c κs. search needs)
+    (λ c. search needs)
+    (λ c κs. search needs)
+    (λ c. search needs)
     array-share-prefix-points
     slice-aggregate-encode
-    encode-requires
+    (λ c κs. search needs)
     returns
-    same-length
+    (λ c. search needs)
     returns-2)

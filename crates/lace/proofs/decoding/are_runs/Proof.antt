@@ -19,34 +19,16 @@ abbrev μ-loop : tie.MeasureT-loop
 loop-holds : tie.Need-loop-holds Inv-loop μ-loop
 loop-holds c = (refl, omega arith)
 
-shared-slice-read-octet : tie.Need-shared-slice-read-octet Inv-loop μ-loop
-shared-slice-read-octet c = search needs
-
-may-stand-requires : tie.Need-may-stand-requires Inv-loop μ-loop
-may-stand-requires c κs = search needs
-
 returns : tie.Need-returns Inv-loop μ-loop
 returns c =
     let l = c .before .before .before .before in
     runs-stop _ _ _ (l .loop .inv .0) (omega arith) _ (c .before .may-stand .ensures) (c .if1 .taken)
-
-place-after-requires : tie.Need-place-after-requires Inv-loop μ-loop
-place-after-requires c κs = search needs
-
-add-i : tie.Need-add-i Inv-loop μ-loop
-add-i c = search needs
-
-loop-less : tie.Need-loop-less Inv-loop μ-loop
-loop-less c = search needs
 
 loop-again : tie.Need-loop-again Inv-loop μ-loop
 loop-again c =
     let m = c .before .before in
     let l = m .before .before .before in
     (runs-turn _ _ _ (l .loop .inv .0) (omega arith) _ (m .may-stand .ensures) (c .before .if1 .left) _ (c .place-after .ensures), omega arith)
-
-may-end-requires : tie.Need-may-end-requires Inv-loop μ-loop
-may-end-requires c κs = search needs
 
 returns-2 : tie.Need-returns-2 Inv-loop μ-loop
 returns-2 c = let l = c .before .before in runs-end _ _ (l .loop .i) (l .loop .inv .0) (omega arith) _ (c .may-end .ensures)
@@ -58,12 +40,12 @@ are-runs-spec =
     Inv-loop
     μ-loop
     loop-holds
-    shared-slice-read-octet
-    may-stand-requires
+    (λ c. search needs)
+    (λ c κs. search needs)
     returns
-    place-after-requires
-    add-i
-    loop-less
+    (λ c κs. search needs)
+    (λ c. search needs)
+    (λ c. search needs)
     loop-again
-    may-end-requires
+    (λ c κs. search needs)
     returns-2)

@@ -4,7 +4,6 @@ use mathlib.Core.Bool.{not}
 use lib.Seq.{length-take-le}
 use borrow.Author.Needs.{needs}
 use native.Mathlib.Omega.{arith}
-use Rattle.basis.specs.Outcome.{numberOf}
 use Rattle.basis.proofs.Outcome.{stop-if, pass-if, stop-told, pass-told, refusal-leaves, handed-leaves}
 use Rattle.utf16.specs.Units.{toPoints}
 use Rattle.utf16.specs.Answer.{pointsOutcome}
@@ -26,14 +25,14 @@ stand-for-units-requires : tie.Need-stand-for-units-requires
 stand-for-units-requires c κs = (units-front _ _ _ _ (c .before .before .put-units .ensures), omega arith)
 
 returns : tie.Need-returns
-unfolding pointsOutcome numberOf octetsOutcome
+unfolding pointsOutcome octetsOutcome
 returns c =
     let s = c .before .before .before .before in
     refusal-leaves (octetsOutcome _) _ _ _ 9 0 (ap pointsOutcome (c .points-error .ensures))
     (stop-told 9 0 _ _ _ (ap not (s .stand-for-units .ensures)) (c .before .if1 .taken))
 
 returns-2 : tie.Need-returns-2
-unfolding pointsOutcome numberOf octetsOutcome
+unfolding pointsOutcome octetsOutcome
 returns-2 c =
     let e = c .before .before in
     let u = e .before .before in
@@ -44,7 +43,7 @@ returns-2 c =
     ∙ stop-if 9 0 _ _ (some-unpaired _ _ _ _ p _ (u .first-unpaired .ensures) (omega arith)))
 
 returns-3 : tie.Need-returns-3
-unfolding pointsOutcome numberOf octetsOutcome
+unfolding pointsOutcome octetsOutcome
 returns-3 c =
     let e = c .before .before in
     let d = e .before .before in

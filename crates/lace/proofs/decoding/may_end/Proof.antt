@@ -4,15 +4,6 @@ use Rattle.lace.specs.Decoding.{mayEnd}
 use Rattle.lace.proofs.decoding.may_end.Statement.{statement}
 use Rattle.lace.proofs.decoding.may_end.Tie as tie
 
-enum-known-place : tie.Need-enum-known-place
-enum-known-place c = search needs
-
-enum-told : tie.Need-enum-told
-enum-told c = search needs
-
-enum-told-2 : tie.Need-enum-told-2
-enum-told-2 c = search needs
-
 returns : tie.Need-returns
 unfolding mayEnd
 returns c = rw (c .before .place .given .1)
@@ -27,4 +18,4 @@ returns-3 c = rw (c .enum-told2 .given .1)
 
 pub may-end-spec : {M : Type 1} → statement M
 may-end-spec =
-    tie.close (tie.spec enum-known-place enum-told enum-told-2 returns returns-2 returns-3)
+    tie.close (tie.spec (λ c. search needs) (λ c. search needs) (λ c. search needs) returns returns-2 returns-3)

@@ -5,24 +5,9 @@ use Rattle.lace.specs.Decoding.{placeAfter}
 use Rattle.lace.proofs.decoding.place_after.Statement.{statement}
 use Rattle.lace.proofs.decoding.place_after.Tie as tie
 
-enum-known-place : tie.Need-enum-known-place
-enum-known-place c = search needs
-
-enum-known-place-2 : tie.Need-enum-known-place-2
-enum-known-place-2 c = search needs
-
-enum-known-place-3 : tie.Need-enum-known-place-3
-enum-known-place-3 c = search needs
-
-cast-t9 : tie.Need-cast-t9
-cast-t9 c = search needs
-
 returns : tie.Need-returns
 unfolding placeAfter
 returns c = rw (c .before .before .place3 .given .1, lt-ltb _ _ (c .if1 .taken))
-
-sub-t10 : tie.Need-sub-t10
-sub-t10 c = search needs
 
 returns-2 : tie.Need-returns-2
 unfolding placeAfter
@@ -40,12 +25,12 @@ pub place-after-spec : {M : Type 1} → statement M
 place-after-spec =
     tie.close
     (tie.spec
-    enum-known-place
-    enum-known-place-2
-    enum-known-place-3
-    cast-t9
+    (λ c. search needs)
+    (λ c. search needs)
+    (λ c. search needs)
+    (λ c. search needs)
     returns
-    sub-t10
+    (λ c. search needs)
     returns-2
     returns-3
     returns-4)

@@ -20,44 +20,17 @@ abbrev μ-loop : tie.MeasureT-loop
 loop-holds : tie.Need-loop-holds Inv-loop μ-loop
 loop-holds c = (storing-all _ _, omega arith)
 
-mul-units : tie.Need-mul-units Inv-loop μ-loop
-mul-units c = search needs
-
-shared-slice-read-units : tie.Need-shared-slice-read-units Inv-loop μ-loop
-shared-slice-read-units c = search needs
-
 cast-units : tie.Need-cast-units Inv-loop μ-loop
 cast-units c = omega (arith, c .shared-slice-known .given (2 * c .before .before .loop .i))
 
 mul-units-2 : tie.Need-mul-units-2 Inv-loop μ-loop
 mul-units-2 c = omega (arith, c .shared-slice-known .given (2 * c .before .before .loop .i))
 
-mul-units-3 : tie.Need-mul-units-3 Inv-loop μ-loop
-mul-units-3 c = search needs
-
-add-units : tie.Need-add-units Inv-loop μ-loop
-add-units c = search needs
-
-shared-slice-read-units-2 : tie.Need-shared-slice-read-units-2 Inv-loop μ-loop
-shared-slice-read-units-2 c = search needs
-
 cast-units-2 : tie.Need-cast-units-2 Inv-loop μ-loop
 cast-units-2 c = omega (arith, c .shared-slice-known2 .given (2 * c .before .before .before .loop .i + 1))
 
 add-units-2 : tie.Need-add-units-2 Inv-loop μ-loop
 add-units-2 c = omega (arith, c .before .shared-slice-known .given (2 * c .before .before .before .loop .i), c .shared-slice-known2 .given (2 * c .before .before .before .loop .i + 1))
-
-mul-units-4 : tie.Need-mul-units-4 Inv-loop μ-loop
-mul-units-4 c = search needs
-
-slice-write-units : tie.Need-slice-write-units Inv-loop μ-loop
-slice-write-units c = omega arith
-
-add-i : tie.Need-add-i Inv-loop μ-loop
-add-i c = search needs
-
-loop-less : tie.Need-loop-less Inv-loop μ-loop
-loop-less c = search needs
 
 loop-again : tie.Need-loop-again Inv-loop μ-loop
 loop-again c = let l = c .before .before .before .loop in (unit-turn _ _ _ _ (l .inv .0) (omega arith) _ refl, omega arith)
@@ -77,19 +50,19 @@ put-unit-pairs-spec =
     Inv-loop
     μ-loop
     loop-holds
-    mul-units
-    shared-slice-read-units
+    (λ c. search needs)
+    (λ c. search needs)
     cast-units
     mul-units-2
-    mul-units-3
-    add-units
-    shared-slice-read-units-2
+    (λ c. search needs)
+    (λ c. search needs)
+    (λ c. search needs)
     cast-units-2
     add-units-2
-    mul-units-4
-    slice-write-units
-    add-i
-    loop-less
+    (λ c. search needs)
+    (λ c. omega arith)
+    (λ c. search needs)
+    (λ c. search needs)
     loop-again
     same-length
     returns)

@@ -4,17 +4,8 @@ use Rattle.lace.proofs.DecodeLaws.{stand-none, stand-even, stand-ff, st
 use Rattle.lace.proofs.decoding.stand_for_units.Statement.{statement}
 use Rattle.lace.proofs.decoding.stand_for_units.Tie as tie
 
-run-count-requires : tie.Need-run-count-requires
-run-count-requires c κs = search needs
-
-mul-twice : tie.Need-mul-twice
-mul-twice c = search needs
-
 returns : tie.Need-returns
 returns c = stand-none _ (c .if1 .taken)
-
-shared-slice-read-if2 : tie.Need-shared-slice-read-if2
-shared-slice-read-if2 c = search needs
 
 returns-2 : tie.Need-returns-2
 returns-2 c =
@@ -25,9 +16,6 @@ returns-3 : tie.Need-returns-3
 returns-3 c =
     let r = c .before .before .before .before in
     stand-ff _ _ (r .before .before .before .pre .0) _ (r .run-count .ensures .0) (c .before .if2 .taken) (c .if3 .left)
-
-are-runs-requires : tie.Need-are-runs-requires
-are-runs-requires c κs = search needs
 
 returns-4 : tie.Need-returns-4
 returns-4 c =
@@ -43,12 +31,12 @@ pub stand-for-units-spec : {M : Type 1} → statement M
 stand-for-units-spec =
     tie.close
     (tie.spec
-    run-count-requires
-    mul-twice
+    (λ c κs. search needs)
+    (λ c. search needs)
     returns
-    shared-slice-read-if2
+    (λ c. search needs)
     returns-2
     returns-3
-    are-runs-requires
+    (λ c κs. search needs)
     returns-4
     returns-5)

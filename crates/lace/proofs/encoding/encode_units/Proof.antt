@@ -3,19 +3,19 @@ use mathlib.Core.Path.{refl, sym}
 use lib.Seq.{length-take-le}
 use native.Mathlib.Omega.{arith}
 use borrow.Author.Needs.{needs}
-use Rattle.basis.specs.Outcome.{bytesOutcome, numberOf}
+use Rattle.basis.specs.Outcome.{bytesOutcome}
 use Rattle.lace.proofs.EncodeLaws.{units-many, octets-are, octets-many, units-done}
 use Rattle.lace.proofs.encoding.encode_units.Statement.{statement}
 use Rattle.lace.proofs.encoding.encode_units.Tie as tie
 
 returns : tie.Need-returns
-unfolding bytesOutcome numberOf
+unfolding bytesOutcome
 returns c =
     let s = c .before .before .before in
     units-many (s .args .units .now) _ (s .pre .0) (omega (arith, c .if1 .taken)) _ refl
 
 returns-2 : tie.Need-returns-2
-unfolding bytesOutcome numberOf
+unfolding bytesOutcome
 returns-2 c = octets-many _ _ _ (c .before .before .put-octets .ensures .0) (omega (arith, c .if2 .taken)) _ refl
 
 array-share-prefix-octets : tie.Need-array-share-prefix-octets

@@ -6,23 +6,11 @@ use borrow.Author.Needs.{needs}
 use Rattle.lace.proofs.encoding.put_all.Statement.{statement}
 use Rattle.lace.proofs.encoding.put_all.Tie as tie
 
-slice-write-octets : tie.Need-slice-write-octets
-slice-write-octets c = search needs
-
 sub-to-bytes : tie.Need-sub-to-bytes
 sub-to-bytes c = omega (arith, length-set (c .before .before .args .octets .now) 0 255)
 
 part-to-bytes-start : tie.Need-part-to-bytes-start
 part-to-bytes-start c = omega (arith, length-set (c .before .before .args .octets .now) 0 255)
-
-part-to-bytes-end : tie.Need-part-to-bytes-end
-part-to-bytes-end c = search needs
-
-to-bytes-requires : tie.Need-to-bytes-requires
-to-bytes-requires c κs = search needs
-
-bytes-written-requires : tie.Need-bytes-written-requires
-bytes-written-requires c κs = search needs
 
 add-result : tie.Need-add-result
 add-result c =
@@ -47,12 +35,12 @@ pub put-all-spec : {M : Type 1} → statement M
 put-all-spec =
     tie.close
     (tie.spec
-    slice-write-octets
+    (λ c. search needs)
     sub-to-bytes
     part-to-bytes-start
-    part-to-bytes-end
-    to-bytes-requires
-    bytes-written-requires
+    (λ c. search needs)
+    (λ c κs. search needs)
+    (λ c κs. search needs)
     add-result
     same-length
     returns)

@@ -8,33 +8,12 @@ use borrow.Author.Needs.{needs}
 use Rattle.lace.proofs.encoding.put_label.Statement.{statement}
 use Rattle.lace.proofs.encoding.put_label.Tie as tie
 
-put-prefix-requires : tie.Need-put-prefix-requires
-put-prefix-requires c κs = search needs
-
-sub-encode : tie.Need-sub-encode
-sub-encode c = search needs
-
-part-encode-start : tie.Need-part-encode-start
-part-encode-start c = search needs
-
-part-encode-end : tie.Need-part-encode-end
-part-encode-end c = search needs
-
-encode-requires : tie.Need-encode-requires
-encode-requires c κs = search needs
-
-bytes-written-requires : tie.Need-bytes-written-requires
-bytes-written-requires c κs = search needs
-
 add-count : tie.Need-add-count
 add-count c =
     let b = c .before .before .before in
     let p = b .before .before .before .before in
     let s = p .before .before .before .before in
     omega (arith, s .pre, label-counted (s .args .octets .now) (s .args .label .now) _ (s .pre) (p .put-prefix .ensures) _ _ (b .encode .ensures .0) (c .bytes-written .ensures))
-
-same-length : tie.Need-same-length
-same-length c = search needs
 
 returns : tie.Need-returns
 unfolding bytesOutcome
@@ -50,12 +29,12 @@ pub put-label-spec : {M : Type 1} → statement M
 put-label-spec =
     tie.close
     (tie.spec
-    put-prefix-requires
-    sub-encode
-    part-encode-start
-    part-encode-end
-    encode-requires
-    bytes-written-requires
+    (λ c κs. search needs)
+    (λ c. search needs)
+    (λ c. search needs)
+    (λ c. search needs)
+    (λ c κs. search needs)
+    (λ c κs. search needs)
     add-count
-    same-length
+    (λ c. search needs)
     returns)

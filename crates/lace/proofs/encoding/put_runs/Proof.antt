@@ -24,18 +24,6 @@ put-run-unit-requires c κs =
     let s = c .before .before .before .before .before in
     (omega arith, s .pre .0, omega (arith, c .before .before .loop .inv .2 .long))
 
-mul-before : tie.Need-mul-before Inv-loop μ-loop
-mul-before c = search needs
-
-shared-slice-read-before : tie.Need-shared-slice-read-before Inv-loop μ-loop
-shared-slice-read-before c = search needs
-
-add-i : tie.Need-add-i Inv-loop μ-loop
-add-i c = search needs
-
-loop-less : tie.Need-loop-less Inv-loop μ-loop
-loop-less c = search needs
-
 loop-again : tie.Need-loop-again Inv-loop μ-loop
 loop-again c =
     let l = c .before .before .before .before .before .before .loop in
@@ -62,10 +50,10 @@ put-runs-spec =
     μ-loop
     loop-holds
     put-run-unit-requires
-    mul-before
-    shared-slice-read-before
-    add-i
-    loop-less
+    (λ c. search needs)
+    (λ c. search needs)
+    (λ c. search needs)
+    (λ c. search needs)
     loop-again
     same-length
     returns)

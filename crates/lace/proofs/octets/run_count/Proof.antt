@@ -22,32 +22,8 @@ returns c = (count-none _ (c .if1 .taken), omega arith)
 loop-holds : tie.Need-loop-holds Inv-loop μ-loop
 loop-holds c = (omega arith, omega arith, omega arith, count-first _ (c .if1 .left))
 
-sub-change : tie.Need-sub-change Inv-loop μ-loop
-sub-change c = search needs
-
-mul-change : tie.Need-mul-change Inv-loop μ-loop
-mul-change c = search needs
-
-shared-slice-read-change : tie.Need-shared-slice-read-change Inv-loop μ-loop
-shared-slice-read-change c = search needs
-
-mul-change-2 : tie.Need-mul-change-2 Inv-loop μ-loop
-mul-change-2 c = search needs
-
-shared-slice-read-change-2 : tie.Need-shared-slice-read-change-2 Inv-loop μ-loop
-shared-slice-read-change-2 c = search needs
-
-change-requires : tie.Need-change-requires Inv-loop μ-loop
-change-requires c κs = search needs
-
 add-r : tie.Need-add-r Inv-loop μ-loop
 add-r c = omega (arith, c .change .ensures .1)
-
-add-i : tie.Need-add-i Inv-loop μ-loop
-add-i c = search needs
-
-loop-less : tie.Need-loop-less Inv-loop μ-loop
-loop-less c = search needs
 
 loop-again : tie.Need-loop-again Inv-loop μ-loop
 loop-again c =
@@ -65,14 +41,14 @@ run-count-spec =
     μ-loop
     returns
     loop-holds
-    sub-change
-    mul-change
-    shared-slice-read-change
-    mul-change-2
-    shared-slice-read-change-2
-    change-requires
+    (λ c. search needs)
+    (λ c. search needs)
+    (λ c. search needs)
+    (λ c. search needs)
+    (λ c. search needs)
+    (λ c κs. search needs)
     add-r
-    add-i
-    loop-less
+    (λ c. search needs)
+    (λ c. search needs)
     loop-again
     returns-2)

@@ -22,26 +22,11 @@ abbrev μ-loop : tie.MeasureT-loop
 loop-holds : tie.Need-loop-holds Inv-loop μ-loop
 loop-holds c = (omega arith, below-none _)
 
-mul-is-ldh : tie.Need-mul-is-ldh Inv-loop μ-loop
-mul-is-ldh c = search needs
-
-shared-slice-read-is-ldh : tie.Need-shared-slice-read-is-ldh Inv-loop μ-loop
-shared-slice-read-is-ldh c = search needs
-
-is-ldh-requires : tie.Need-is-ldh-requires Inv-loop μ-loop
-is-ldh-requires c κs = search needs
-
 returns : tie.Need-returns Inv-loop μ-loop
 unfolding isAllLdh
 returns c =
     let l = c .before .before .before .before .loop in
     sym (not-each _ _ (l .i) (omega arith) (sym (c .before .is-ldh .ensures) ∙ not-true _ (c .if1 .taken)))
-
-add-i : tie.Need-add-i Inv-loop μ-loop
-add-i c = search needs
-
-loop-less : tie.Need-loop-less Inv-loop μ-loop
-loop-less c = search needs
 
 loop-again : tie.Need-loop-again Inv-loop μ-loop
 loop-again c =
@@ -58,11 +43,11 @@ text-all-ldh-spec =
     Inv-loop
     μ-loop
     loop-holds
-    mul-is-ldh
-    shared-slice-read-is-ldh
-    is-ldh-requires
+    (λ c. search needs)
+    (λ c. search needs)
+    (λ c κs. search needs)
     returns
-    add-i
-    loop-less
+    (λ c. search needs)
+    (λ c. search needs)
     loop-again
     returns-2)

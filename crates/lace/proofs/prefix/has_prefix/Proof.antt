@@ -9,53 +9,17 @@ use Rattle.lace.proofs.prefix.has_prefix.Tie as tie
 returns : tie.Need-returns
 returns c = prefix-short _ (c .if1 .taken)
 
-shared-slice-read-small-form : tie.Need-shared-slice-read-small-form
-shared-slice-read-small-form c = search needs
-
-small-form-requires : tie.Need-small-form-requires
-small-form-requires c κs = search needs
-
-element-copy-out-if2 : tie.Need-element-copy-out-if2
-element-copy-out-if2 c = search needs
-
 returns-2 : tie.Need-returns-2
 unfolding prefix
 returns-2 c = prefix-not _ 0 (omega arith) _ (c .before .before .small-form .ensures) (c .if2 .taken)
-
-shared-slice-read-small-form-2 : tie.Need-shared-slice-read-small-form-2
-shared-slice-read-small-form-2 c = search needs
-
-small-form-requires-2 : tie.Need-small-form-requires-2
-small-form-requires-2 c κs = search needs
-
-element-copy-out-if3 : tie.Need-element-copy-out-if3
-element-copy-out-if3 c = search needs
 
 returns-3 : tie.Need-returns-3
 unfolding prefix
 returns-3 c = prefix-not _ 1 (omega arith) _ (c .before .before .small-form2 .ensures) (c .if3 .taken)
 
-shared-slice-read-small-form-3 : tie.Need-shared-slice-read-small-form-3
-shared-slice-read-small-form-3 c = search needs
-
-small-form-requires-3 : tie.Need-small-form-requires-3
-small-form-requires-3 c κs = search needs
-
-element-copy-out-if4 : tie.Need-element-copy-out-if4
-element-copy-out-if4 c = search needs
-
 returns-4 : tie.Need-returns-4
 unfolding prefix
 returns-4 c = prefix-not _ 2 (omega arith) _ (c .before .before .small-form3 .ensures) (c .if4 .taken)
-
-shared-slice-read-small-form-4 : tie.Need-shared-slice-read-small-form-4
-shared-slice-read-small-form-4 c = search needs
-
-small-form-requires-4 : tie.Need-small-form-requires-4
-small-form-requires-4 c κs = search needs
-
-element-copy-out-result : tie.Need-element-copy-out-result
-element-copy-out-result c = search needs
 
 returns-5 : tie.Need-returns-5
 returns-5 c =
@@ -71,19 +35,19 @@ has-prefix-spec =
     tie.close
     (tie.spec
     returns
-    shared-slice-read-small-form
-    small-form-requires
-    element-copy-out-if2
+    (λ c. search needs)
+    (λ c κs. search needs)
+    (λ c. search needs)
     returns-2
-    shared-slice-read-small-form-2
-    small-form-requires-2
-    element-copy-out-if3
+    (λ c. search needs)
+    (λ c κs. search needs)
+    (λ c. search needs)
     returns-3
-    shared-slice-read-small-form-3
-    small-form-requires-3
-    element-copy-out-if4
+    (λ c. search needs)
+    (λ c κs. search needs)
+    (λ c. search needs)
     returns-4
-    shared-slice-read-small-form-4
-    small-form-requires-4
-    element-copy-out-result
+    (λ c. search needs)
+    (λ c κs. search needs)
+    (λ c. search needs)
     returns-5)

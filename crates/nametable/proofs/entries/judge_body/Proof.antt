@@ -2,7 +2,6 @@
 use mathlib.Core.Path.{sym, _∙_}
 use native.Mathlib.Omega.{arith}
 use borrow.Author.Tests.{not-false}
-use Rattle.basis.specs.Outcome.{numberOf}
 use Rattle.basis.proofs.Tests.{within-true, within-below, within-above}
 use Rattle.nametable.specs.Stepping.{judgedOutcome}
 use Rattle.nametable.proofs.EntryLaws.{filled-part, label-part, not-rising, not-sized, not-filled-judged, by-label}
@@ -11,26 +10,26 @@ use Rattle.nametable.proofs.entries.judge_body.Statement.{statement}
 use Rattle.nametable.proofs.entries.judge_body.Tie as tie
 
 returns : tie.Need-returns
-unfolding judgedOutcome numberOf
+unfolding judgedOutcome
 returns c = sym (not-rising _ _ _ (c .before .before .before .pre .1) _ (c .before .number-at .ensures .0) (c .if1 .taken))
 
 cast-length : tie.Need-cast-length
 cast-length c = omega (arith, c .shared-slice-known2 .given 3)
 
 returns-2 : tie.Need-returns-2
-unfolding judgedOutcome numberOf
+unfolding judgedOutcome
 returns-2 c =
     let n = c .before .before .before in
     sym (not-sized _ _ _ (n .before .before .pre .1) _ (n .number-at .ensures .0) (c .before .before .if1 .left) (within-below _ _ _ (c .if2 .taken)))
 
 returns-3 : tie.Need-returns-3
-unfolding judgedOutcome numberOf
+unfolding judgedOutcome
 returns-3 c =
     let n = c .before .before .before .before in
     sym (not-sized _ _ _ (n .before .before .pre .1) _ (n .number-at .ensures .0) (c .before .before .before .if1 .left) (within-above _ _ _ (c .if3 .taken)))
 
 returns-4 : tie.Need-returns-4
-unfolding judgedOutcome numberOf
+unfolding judgedOutcome
 returns-4 c = search (needs, not-filled-judged)
 
 returns-5 : tie.Need-returns-5

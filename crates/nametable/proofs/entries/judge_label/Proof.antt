@@ -4,18 +4,6 @@ use borrow.Author.Needs.{needs}
 use Rattle.nametable.proofs.entries.judge_label.Statement.{statement}
 use Rattle.nametable.proofs.entries.judge_label.Tie as tie
 
-slice-aggregate-decode : tie.Need-slice-aggregate-decode
-slice-aggregate-decode c = search needs
-
-decode-requires : tie.Need-decode-requires
-decode-requires c κs = search needs
-
-enum-known-answer : tie.Need-enum-known-answer
-enum-known-answer c = search needs
-
-enum-told : tie.Need-enum-told
-enum-told c = search needs
-
 returns : tie.Need-returns
 returns c = label-bad _ _ (c .before .before .before .before .decode .ensures .0) _ _ _ (c .before .answer .given .1)
 
@@ -25,4 +13,4 @@ returns-2 c = label-good _ _ (c .before .before .before .decode .ensures .0) _ _
 pub judge-label-spec : {M : Type 1} → statement M
 judge-label-spec =
     tie.close
-    (tie.spec slice-aggregate-decode decode-requires enum-known-answer enum-told returns returns-2)
+    (tie.spec (λ c. search needs) (λ c κs. search needs) (λ c. search needs) (λ c. search needs) returns returns-2)

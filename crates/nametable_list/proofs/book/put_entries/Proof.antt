@@ -22,9 +22,6 @@ sub-put-entry c = at-fits (c .before .loop .inv) (c .before .before .before .bef
 part-put-entry-start : tie.Need-part-put-entry-start Inv-loop μ-loop
 part-put-entry-start c = sub-put-entry c
 
-part-put-entry-end : tie.Need-part-put-entry-end Inv-loop μ-loop
-part-put-entry-end c = search needs
-
 put-entry-requires : tie.Need-put-entry-requires Inv-loop μ-loop
 put-entry-requires c κs =
     let l = c .before .before in
@@ -39,12 +36,6 @@ loop-again c =
 
 add-at : tie.Need-add-at Inv-loop μ-loop
 add-at c = let l = loop-again c in record { fits = omega (arith, l .room, l .within, c .before .before .before .before .before .before .before .before .pre .1) }
-
-add-i : tie.Need-add-i Inv-loop μ-loop
-add-i c = search needs
-
-loop-less : tie.Need-loop-less Inv-loop μ-loop
-loop-less c = search needs
 
 same-length : tie.Need-same-length Inv-loop μ-loop
 same-length c = out-long (c .before .loop .inv) (c .before .before .before .before .pre .1)
@@ -61,11 +52,11 @@ put-entries-spec =
     loop-holds
     sub-put-entry
     part-put-entry-start
-    part-put-entry-end
+    (λ c. search needs)
     put-entry-requires
     add-at
-    add-i
-    loop-less
+    (λ c. search needs)
+    (λ c. search needs)
     loop-again
     same-length
     returns)

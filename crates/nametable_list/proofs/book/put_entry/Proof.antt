@@ -7,21 +7,6 @@ use borrow.Author.Needs.{needs}
 use Rattle.nametable_list.proofs.book.put_entry.Statement.{statement}
 use Rattle.nametable_list.proofs.book.put_entry.Tie as tie
 
-slice-aggregate-entry : tie.Need-slice-aggregate-entry
-slice-aggregate-entry c = search needs
-
-entry-requires : tie.Need-entry-requires
-entry-requires c κs = search needs
-
-enum-told : tie.Need-enum-told
-enum-told c = search needs
-
-enum-known-answer : tie.Need-enum-known-answer
-enum-known-answer c = search needs
-
-letter-requires : tie.Need-letter-requires
-letter-requires c κs = search needs
-
 array-share-prefix-points : tie.Need-array-share-prefix-points
 array-share-prefix-points c =
     let e = c .before .before .before .before .before .entry .ensures in
@@ -32,19 +17,10 @@ slice-aggregate-list-line c =
     let e = c .before .before .before .before .before .before .entry .ensures in
     points-long _ _ (c .before .before .before .before .before .before .before .before .before .before .pre .0) _ (omega arith) _ (e .0) _ _ _ (c .before .before .before .answer .given .1) _ _ (e .1)
 
-list-line-requires : tie.Need-list-line-requires
-list-line-requires c κs = search needs
-
-bytes-written-requires : tie.Need-bytes-written-requires
-bytes-written-requires c κs = search needs
-
 returns : tie.Need-returns
 returns c =
     let e = c .before .before .before .entry .ensures in
     absurd (never-error _ _ (c .before .before .before .before .before .before .before .pre .0) _ (omega arith) _ (e .0) _ _ (c .enum-told .given .1))
-
-same-length : tie.Need-same-length
-same-length c = search needs
 
 returns-2 : tie.Need-returns-2
 returns-2 c =
@@ -61,15 +37,15 @@ pub put-entry-spec : {M : Type 1} → statement M
 put-entry-spec =
     tie.close
     (tie.spec
-    slice-aggregate-entry
-    entry-requires
-    enum-told
-    enum-known-answer
-    letter-requires
+    (λ c. search needs)
+    (λ c κs. search needs)
+    (λ c. search needs)
+    (λ c. search needs)
+    (λ c κs. search needs)
     array-share-prefix-points
     slice-aggregate-list-line
-    list-line-requires
-    bytes-written-requires
+    (λ c κs. search needs)
+    (λ c κs. search needs)
     returns
-    same-length
+    (λ c. search needs)
     returns-2)

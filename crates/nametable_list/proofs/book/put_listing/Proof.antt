@@ -6,18 +6,6 @@ use borrow.Author.Needs.{needs}
 use Rattle.nametable_list.proofs.book.put_listing.Statement.{statement}
 use Rattle.nametable_list.proofs.book.put_listing.Tie as tie
 
-read-requires : tie.Need-read-requires
-read-requires c κs = search needs
-
-enum-known-verdict : tie.Need-enum-known-verdict
-enum-known-verdict c = search needs
-
-put-refusal-requires : tie.Need-put-refusal-requires
-put-refusal-requires c κs = search needs
-
-enum-known-verdict-2 : tie.Need-enum-known-verdict-2
-enum-known-verdict-2 c = search needs
-
 put-entries-requires : tie.Need-put-entries-requires
 unfolding tableOutcome
 put-entries-requires c κs =
@@ -25,16 +13,10 @@ put-entries-requires c κs =
     let whole = sym v ∙ ap tableOutcome (c .before .before .verdict2 .given .1) in
     (whole, entries-fit _ _ _ whole (c .before .before .before .before .before .before .before .pre))
 
-same-length : tie.Need-same-length
-same-length c = search needs
-
 returns : tie.Need-returns
 returns c =
     let v = c .before .before .before .before .before .before .before .read .ensures in
     listing-refused _ _ v _ _ _ _ _ (c .before .before .before .before .before .verdict .given .1) (c .before .before .put-refusal .ensures)
-
-same-length-2 : tie.Need-same-length-2
-same-length-2 c = search needs
 
 returns-2 : tie.Need-returns-2
 returns-2 c =
@@ -45,12 +27,12 @@ pub put-listing-spec : {M : Type 1} → statement M
 put-listing-spec =
     tie.close
     (tie.spec
-    read-requires
-    enum-known-verdict
-    put-refusal-requires
-    enum-known-verdict-2
+    (λ c κs. search needs)
+    (λ c. search needs)
+    (λ c κs. search needs)
+    (λ c. search needs)
     put-entries-requires
-    same-length
+    (λ c. search needs)
     returns
-    same-length-2
+    (λ c. search needs)
     returns-2)

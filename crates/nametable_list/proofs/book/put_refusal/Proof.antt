@@ -11,18 +11,6 @@ use borrow.Author.Needs.{needs}
 use Rattle.nametable_list.proofs.book.put_refusal.Statement.{statement}
 use Rattle.nametable_list.proofs.book.put_refusal.Tie as tie
 
-code-number-requires : tie.Need-code-number-requires
-code-number-requires c κs = search needs
-
-refused-at-line-requires : tie.Need-refused-at-line-requires
-refused-at-line-requires c κs = search needs
-
-bytes-written-requires : tie.Need-bytes-written-requires
-bytes-written-requires c κs = search needs
-
-same-length : tie.Need-same-length
-same-length c = search needs
-
 returns : tie.Need-returns
 returns c =
     let n = c .before .before .before .before .before .code-number in
@@ -35,4 +23,4 @@ returns c =
 pub put-refusal-spec : {M : Type 1} → statement M
 put-refusal-spec =
     tie.close
-    (tie.spec code-number-requires refused-at-line-requires bytes-written-requires same-length returns)
+    (tie.spec (λ c κs. search needs) (λ c κs. search needs) (λ c κs. search needs) (λ c. search needs) returns)

@@ -5,9 +5,6 @@ use Rattle.report.proofs.DigitLaws.{digits-length, count-few}
 use Rattle.report.proofs.digits.digits_length.Statement.{statement}
 use Rattle.report.proofs.digits.digits_length.Tie as tie
 
-digit-count-requires : tie.Need-digit-count-requires
-digit-count-requires c κs = search needs
-
 returns : tie.Need-returns
 returns c =
     let a = c .before .before .args in
@@ -22,4 +19,4 @@ returns-2 c =
     )
 
 pub digits-length-spec : {M : Type 1} → statement M
-digits-length-spec = tie.close (tie.spec digit-count-requires returns returns-2)
+digits-length-spec = tie.close (tie.spec (λ c κs. search needs) returns returns-2)

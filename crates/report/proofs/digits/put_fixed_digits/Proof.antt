@@ -21,31 +21,13 @@ Inv-loop number base count out₀ at end j₀ left₀ out j left =
 abbrev μ-loop : tie.MeasureT-loop
 μ-loop number base count out₀ at end j₀ left₀ out j left = j
 
-add-end : tie.Need-add-end Inv-loop μ-loop
-add-end c = search needs
-
 loop-holds : tie.Need-loop-holds Inv-loop μ-loop
 loop-holds c = (put-all _ _ _ _ _, refl, omega arith, omega arith)
-
-sub-j : tie.Need-sub-j Inv-loop μ-loop
-sub-j c = search needs
-
-rem-digit-character : tie.Need-rem-digit-character Inv-loop μ-loop
-rem-digit-character c = search needs
 
 digit-character-requires : tie.Need-digit-character-requires Inv-loop μ-loop
 digit-character-requires c κs =
     let s = c .before .before .before in
     omega (arith, mod-lt (c .before .loop .left) {m = s .args .base} (omega arith))
-
-slice-write-out : tie.Need-slice-write-out Inv-loop μ-loop
-slice-write-out c = search needs
-
-div-left : tie.Need-div-left Inv-loop μ-loop
-div-left c = search needs
-
-loop-less : tie.Need-loop-less Inv-loop μ-loop
-loop-less c = search needs
 
 loop-again : tie.Need-loop-again Inv-loop μ-loop
 loop-again c =
@@ -56,9 +38,6 @@ loop-again c =
       omega arith,
     )
 
-same-length : tie.Need-same-length Inv-loop μ-loop
-same-length c = search needs
-
 returns : tie.Need-returns Inv-loop μ-loop
 returns c = put-end _ _ _ _ _ _ _ _ (c .loop-test .left) (c .before .loop .inv .0)
 
@@ -68,14 +47,14 @@ put-fixed-digits-spec =
     (tie.spec
     Inv-loop
     μ-loop
-    add-end
+    (λ c. search needs)
     loop-holds
-    sub-j
-    rem-digit-character
+    (λ c. search needs)
+    (λ c. search needs)
     digit-character-requires
-    slice-write-out
-    div-left
-    loop-less
+    (λ c. search needs)
+    (λ c. search needs)
+    (λ c. search needs)
     loop-again
-    same-length
+    (λ c. search needs)
     returns)

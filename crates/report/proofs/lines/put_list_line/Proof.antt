@@ -13,9 +13,6 @@ put-fixed-digits-requires c κs =
     let a = c .before .before .before .args in
     (omega arith, (omega arith, omega (arith, list-line-length (a .reader) (a .letter) (a .points .now))))
 
-slice-aggregate-put-bytes : tie.Need-slice-aggregate-put-bytes
-slice-aggregate-put-bytes c = search needs
-
 put-bytes-requires : tie.Need-put-bytes-requires
 put-bytes-requires c κs =
     let d = c .before .before .before .before in
@@ -32,9 +29,6 @@ put-points-line-requires c κs =
     let f = b .put-bytes .ensures in
     omega (arith, list-line-length (a .reader) (a .letter) (a .points .now), fixed-length 10 5 (a .reader), e .index, stored-long e, f .index, stored-long f)
 
-same-length : tie.Need-same-length
-same-length c = search needs
-
 returns : tie.Need-returns
 unfolding listLine
 returns c =
@@ -47,8 +41,8 @@ put-list-line-spec =
     tie.close
     (tie.spec
     put-fixed-digits-requires
-    slice-aggregate-put-bytes
+    (λ c. search needs)
     put-bytes-requires
     put-points-line-requires
-    same-length
+    (λ c. search needs)
     returns)

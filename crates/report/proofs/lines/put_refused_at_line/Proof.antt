@@ -12,9 +12,6 @@ put-refused-number-requires c κs =
     let a = c .before .before .args in
     omega (arith, refused-at-length (a .code) (a .position))
 
-slice-aggregate-put-bytes : tie.Need-slice-aggregate-put-bytes
-slice-aggregate-put-bytes c = search needs
-
 put-bytes-requires : tie.Need-put-bytes-requires
 put-bytes-requires c κs =
     let p = c .before .before .before .before in
@@ -62,7 +59,7 @@ put-refused-at-line-spec =
     tie.close
     (tie.spec
     put-refused-number-requires
-    slice-aggregate-put-bytes
+    (λ c. search needs)
     put-bytes-requires
     put-digits-requires
     slice-write-out

@@ -8,9 +8,6 @@ use Rattle.report.proofs.LineLaws.{number-length}
 use Rattle.report.proofs.lines.put_refused_number.Statement.{statement}
 use Rattle.report.proofs.lines.put_refused_number.Tie as tie
 
-slice-aggregate-put-bytes : tie.Need-slice-aggregate-put-bytes
-slice-aggregate-put-bytes c = search needs
-
 put-bytes-requires : tie.Need-put-bytes-requires
 put-bytes-requires c κs = omega (arith, number-length (c .before .before .before .args .code))
 
@@ -45,7 +42,7 @@ pub put-refused-number-spec : {M : Type 1} → statement M
 put-refused-number-spec =
     tie.close
     (tie.spec
-    slice-aggregate-put-bytes
+    (λ c. search needs)
     put-bytes-requires
     slice-write-out
     add-put-digits

@@ -5,14 +5,8 @@ use Rattle.report.proofs.PointLaws.{point-length}
 use Rattle.report.proofs.points.point_length.Statement.{statement}
 use Rattle.report.proofs.points.point_length.Tie as tie
 
-digits-length-requires : tie.Need-digits-length-requires
-digits-length-requires c κs = search needs
-
-add-result : tie.Need-add-result
-add-result c = search needs
-
 returns : tie.Need-returns
 returns c = (omega (arith, point-length (c .before .args .point)), omega arith)
 
 pub point-length-spec : {M : Type 1} → statement M
-point-length-spec = tie.close (tie.spec digits-length-requires add-result returns)
+point-length-spec = tie.close (tie.spec (λ c κs. search needs) (λ c. search needs) returns)

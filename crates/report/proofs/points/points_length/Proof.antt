@@ -20,55 +20,16 @@ returns c =
     let t = c .before .before .args .points .now in
     omega (arith, ap length (points-none t (c .if1 .taken)))
 
-shared-slice-read-point-length : tie.Need-shared-slice-read-point-length Inv-loop μ-loop
-shared-slice-read-point-length c = search needs
-
-point-length-requires : tie.Need-point-length-requires Inv-loop μ-loop
-point-length-requires c κs = search needs
-
 loop-holds : tie.Need-loop-holds Inv-loop μ-loop
 loop-holds c =
     let t = c .before .before .before .before .args .points .now in
     (omega (arith, first-length t (c .before .before .if1 .left)), omega arith, omega arith)
-
-add-result : tie.Need-add-result Inv-loop μ-loop
-add-result c = search needs
-
-returns-2 : tie.Need-returns-2 Inv-loop μ-loop
-returns-2 c = omega arith
-
-mul-point-length : tie.Need-mul-point-length Inv-loop μ-loop
-mul-point-length c = search needs
-
-shared-slice-read-point-length-2 : tie.Need-shared-slice-read-point-length-2 Inv-loop μ-loop
-shared-slice-read-point-length-2 c = search needs
-
-point-length-requires-2 : tie.Need-point-length-requires-2 Inv-loop μ-loop
-point-length-requires-2 c κs = search needs
-
-add-n : tie.Need-add-n Inv-loop μ-loop
-add-n c = search needs
-
-add-n-2 : tie.Need-add-n-2 Inv-loop μ-loop
-add-n-2 c = search needs
-
-add-i : tie.Need-add-i Inv-loop μ-loop
-add-i c = search needs
-
-loop-less : tie.Need-loop-less Inv-loop μ-loop
-loop-less c = search needs
 
 loop-again : tie.Need-loop-again Inv-loop μ-loop
 loop-again c =
     let l = c .before .before .before .before in
     let t = l .before .before .before .before .before .args .points .now in
     (omega (arith, spaced-length t (l .loop .i) (c .before .before .before .loop-test .taken)), omega arith, omega arith)
-
-add-result-2 : tie.Need-add-result-2 Inv-loop μ-loop
-add-result-2 c = search needs
-
-returns-3 : tie.Need-returns-3 Inv-loop μ-loop
-returns-3 c = omega arith
 
 returns-4 : tie.Need-returns-4 Inv-loop μ-loop
 returns-4 c =
@@ -83,19 +44,19 @@ points-length-spec =
     Inv-loop
     μ-loop
     returns
-    shared-slice-read-point-length
-    point-length-requires
+    (λ c. search needs)
+    (λ c κs. search needs)
     loop-holds
-    add-result
-    returns-2
-    mul-point-length
-    shared-slice-read-point-length-2
-    point-length-requires-2
-    add-n
-    add-n-2
-    add-i
-    loop-less
+    (λ c. search needs)
+    (λ c. omega arith)
+    (λ c. search needs)
+    (λ c. search needs)
+    (λ c κs. search needs)
+    (λ c. search needs)
+    (λ c. search needs)
+    (λ c. search needs)
+    (λ c. search needs)
     loop-again
-    add-result-2
-    returns-3
+    (λ c. search needs)
+    (λ c. omega arith)
     returns-4)

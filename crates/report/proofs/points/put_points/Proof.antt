@@ -23,9 +23,6 @@ abbrev μ-loop : tie.MeasureT-loop
 returns : tie.Need-returns Inv-loop μ-loop
 returns c = stored-no-points _ (c .if1 .taken) _ _
 
-shared-slice-read-put-point : tie.Need-shared-slice-read-put-point Inv-loop μ-loop
-shared-slice-read-put-point c = search needs
-
 put-point-requires : tie.Need-put-point-requires Inv-loop μ-loop
 put-point-requires c κs =
     let b = c .before .before in
@@ -47,12 +44,6 @@ slice-write-out c =
     let l = c .before in
     omega (arith, spaced-length (l .before .before .before .before .before .before .before .before .before .args .points .now) (l .loop .i) (c .loop-test .taken))
 
-mul-put-point : tie.Need-mul-put-point Inv-loop μ-loop
-mul-put-point c = search needs
-
-shared-slice-read-put-point-2 : tie.Need-shared-slice-read-put-point-2 Inv-loop μ-loop
-shared-slice-read-put-point-2 c = search needs
-
 add-put-point : tie.Need-add-put-point Inv-loop μ-loop
 add-put-point c =
     let l = c .before .before .before in
@@ -63,12 +54,6 @@ put-point-requires-2 c κs =
     let l = c .before .before .before in
     rw length-set
     (omega (arith, spaced-length (l .before .before .before .before .before .before .before .before .before .args .points .now) (l .loop .i) (c .before .before .loop-test .taken)))
-
-add-i : tie.Need-add-i Inv-loop μ-loop
-add-i c = search needs
-
-loop-less : tie.Need-loop-less Inv-loop μ-loop
-loop-less c = search needs
 
 loop-again : tie.Need-loop-again Inv-loop μ-loop
 loop-again c =
@@ -99,16 +84,16 @@ put-points-spec =
     Inv-loop
     μ-loop
     returns
-    shared-slice-read-put-point
+    (λ c. search needs)
     put-point-requires
     loop-holds
     slice-write-out
-    mul-put-point
-    shared-slice-read-put-point-2
+    (λ c. search needs)
+    (λ c. search needs)
     add-put-point
     put-point-requires-2
-    add-i
-    loop-less
+    (λ c. search needs)
+    (λ c. search needs)
     loop-again
     same-length
     returns-2)

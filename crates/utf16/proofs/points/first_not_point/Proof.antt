@@ -20,27 +20,12 @@ abbrev μ-loop : tie.MeasureT-loop
 loop-holds : tie.Need-loop-holds Inv-loop μ-loop
 loop-holds c = (search needs, below-none _)
 
-mul-is-point : tie.Need-mul-is-point Inv-loop μ-loop
-mul-is-point c = search needs
-
-shared-slice-read-is-point : tie.Need-shared-slice-read-is-point Inv-loop μ-loop
-shared-slice-read-is-point c = search needs
-
-is-point-requires : tie.Need-is-point-requires Inv-loop μ-loop
-is-point-requires c κs = search needs
-
 returns : tie.Need-returns Inv-loop μ-loop
 unfolding firstNotPoint
 returns c =
     let l = c .before .before .before .before in
     let ns = l .before .before .args .numbers .now in
     sym (first-at (length ns) _ _ (omega (arith, c .before .before .before .loop-test .taken)) (ap not (sym (c .before .is-point .ensures)) ∙ c .if1 .taken) (l .loop .inv .1))
-
-add-i : tie.Need-add-i Inv-loop μ-loop
-add-i c = search needs
-
-loop-less : tie.Need-loop-less Inv-loop μ-loop
-loop-less c = search needs
 
 loop-again : tie.Need-loop-again Inv-loop μ-loop
 loop-again c = (omega arith, below-more _ _ (c .before .before .before .before .loop .inv .1) (ap not (sym (c .before .is-point .ensures)) ∙ c .if1 .left))
@@ -59,11 +44,11 @@ first-not-point-spec =
     Inv-loop
     μ-loop
     loop-holds
-    mul-is-point
-    shared-slice-read-is-point
-    is-point-requires
+    (λ c. search needs)
+    (λ c. search needs)
+    (λ c κs. search needs)
     returns
-    add-i
-    loop-less
+    (λ c. search needs)
+    (λ c. search needs)
     loop-again
     returns-2)

@@ -23,32 +23,11 @@ abbrev μ-loop : tie.MeasureT-loop
 loop-holds : tie.Need-loop-holds Inv-loop μ-loop
 loop-holds c = (search needs, refl, below-none _)
 
-mul-unit : tie.Need-mul-unit Inv-loop μ-loop
-mul-unit c = search needs
-
-shared-slice-read-unit : tie.Need-shared-slice-read-unit Inv-loop μ-loop
-shared-slice-read-unit c = search needs
-
-add-unit-at : tie.Need-add-unit-at Inv-loop μ-loop
-add-unit-at c = search needs
-
-unit-at-requires : tie.Need-unit-at-requires Inv-loop μ-loop
-unit-at-requires c κs = search needs
-
-is-unpaired-requires : tie.Need-is-unpaired-requires Inv-loop μ-loop
-is-unpaired-requires c κs = search needs
-
 returns : tie.Need-returns Inv-loop μ-loop
 unfolding firstUnpaired
 returns c =
     let l = c .before .before .before .before .before in
     sym (first-at _ _ _ (c .before .before .before .before .loop-test .taken) (unpaired-here _ _ _ _ _ (l .loop .inv .1) (c .before .before .unit-at .ensures) (c .before .is-unpaired .ensures) ∙ c .if1 .taken) (l .loop .inv .2))
-
-add-i : tie.Need-add-i Inv-loop μ-loop
-add-i c = search needs
-
-loop-less : tie.Need-loop-less Inv-loop μ-loop
-loop-less c = search needs
 
 loop-again : tie.Need-loop-again Inv-loop μ-loop
 loop-again c =
@@ -69,13 +48,13 @@ first-unpaired-spec =
     Inv-loop
     μ-loop
     loop-holds
-    mul-unit
-    shared-slice-read-unit
-    add-unit-at
-    unit-at-requires
-    is-unpaired-requires
+    (λ c. search needs)
+    (λ c. search needs)
+    (λ c. search needs)
+    (λ c κs. search needs)
+    (λ c κs. search needs)
     returns
-    add-i
-    loop-less
+    (λ c. search needs)
+    (λ c. search needs)
     loop-again
     returns-2)

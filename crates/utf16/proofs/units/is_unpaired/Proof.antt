@@ -6,20 +6,8 @@ use Rattle.utf16.proofs.Surrogates.{unpaired-high, unpaired-low, unpair
 use Rattle.utf16.proofs.units.is_unpaired.Statement.{statement}
 use Rattle.utf16.proofs.units.is_unpaired.Tie as tie
 
-is-high-requires : tie.Need-is-high-requires
-is-high-requires c κs = search needs
-
-is-low-requires : tie.Need-is-low-requires
-is-low-requires c κs = search needs
-
 returns : tie.Need-returns
 returns c = ap not (c .is-low .ensures) ∙ sym (unpaired-high _ _ _ (sym (c .before .before .is-high .ensures) ∙ c .before .if1 .taken))
-
-is-low-requires-2 : tie.Need-is-low-requires-2
-is-low-requires-2 c κs = search needs
-
-is-high-requires-2 : tie.Need-is-high-requires-2
-is-high-requires-2 c κs = search needs
 
 returns-2 : tie.Need-returns-2
 returns-2 c = ap not (c .is-high2 .ensures) ∙ sym (unpaired-low _ _ _ (sym (c .before .before .is-low2 .ensures) ∙ c .before .if2 .taken))
@@ -31,10 +19,10 @@ pub is-unpaired-spec : {M : Type 1} → statement M
 is-unpaired-spec =
     tie.close
     (tie.spec
-    is-high-requires
-    is-low-requires
+    (λ c κs. search needs)
+    (λ c κs. search needs)
     returns
-    is-low-requires-2
-    is-high-requires-2
+    (λ c κs. search needs)
+    (λ c κs. search needs)
     returns-2
     returns-3)

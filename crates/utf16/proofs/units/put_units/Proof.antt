@@ -21,20 +21,8 @@ abbrev μ-loop : tie.MeasureT-loop
 loop-holds : tie.Need-loop-holds Inv-loop μ-loop
 loop-holds c = (storing-all _ _, search needs, search needs)
 
-mul-put-point-units : tie.Need-mul-put-point-units Inv-loop μ-loop
-mul-put-point-units c = search needs
-
-shared-slice-read-put-point-units : tie.Need-shared-slice-read-put-point-units Inv-loop μ-loop
-shared-slice-read-put-point-units c = search needs
-
 put-point-units-requires : tie.Need-put-point-units-requires Inv-loop μ-loop
 put-point-units-requires c κs = (omega arith, text-at _ _ (c .before .before .before .before .before .before .pre .1) (c .before .before .loop-test .taken))
-
-add-i : tie.Need-add-i Inv-loop μ-loop
-add-i c = search needs
-
-loop-less : tie.Need-loop-less Inv-loop μ-loop
-loop-less c = search needs
 
 loop-again : tie.Need-loop-again Inv-loop μ-loop
 loop-again c =
@@ -58,11 +46,11 @@ put-units-spec =
     Inv-loop
     μ-loop
     loop-holds
-    mul-put-point-units
-    shared-slice-read-put-point-units
+    (λ c. search needs)
+    (λ c. search needs)
     put-point-units-requires
-    add-i
-    loop-less
+    (λ c. search needs)
+    (λ c. search needs)
     loop-again
     same-length
     returns)

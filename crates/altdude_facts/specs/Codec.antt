@@ -1,0 +1,21 @@
+-- AltDUDE as a codec, of which the demands speak.
+use mathlib.Core.Path.{_≡_}
+use Rattle.basis.specs.Case.{SameButCase}
+use Rattle.basis.specs.Codec.{Codec}
+use Rattle.altdude.specs.Encoding.{labelOf}
+use Rattle.altdude.specs.Decoding.{textOf}
+use Rattle.altdude.specs.Answer.{encodeOutcome, decodeOutcome}
+use Rattle.altdude_facts.specs.Causes.{textCauses, labelCauses}
+
+-- labels are the same that differ at most in case, and texts that are equal
+abbrev pub codec : Codec
+codec = record {
+  encodeOutcome = encodeOutcome;
+  decodeOutcome = decodeOutcome;
+  labelOf = labelOf;
+  textOf = textOf;
+  textCauses = textCauses;
+  labelCauses = labelCauses;
+  SameLabel = SameButCase;
+  SameText = _≡_;
+}

@@ -1,0 +1,22 @@
+-- LACE as a codec, of which the demands speak.
+use mathlib.Core.Path.{_≡_}
+use Rattle.basis.specs.Case.{SameButCase}
+use Rattle.basis.specs.Codec.{Codec}
+use Rattle.lace.specs.Octets.{isAllLdh}
+use Rattle.lace.specs.Encoding.{labelOf}
+use Rattle.lace.specs.Decoding.{textOf}
+use Rattle.lace.specs.Answer.{encodeOutcome, decodeOutcome}
+use Rattle.lace_facts.specs.Causes.{textCauses, labelCauses}
+
+-- labels are the same that differ at most in case, and texts that are equal
+abbrev pub codec : Codec
+codec = record {
+  encodeOutcome = encodeOutcome isAllLdh;
+  decodeOutcome = decodeOutcome isAllLdh;
+  labelOf = labelOf;
+  textOf = textOf;
+  textCauses = textCauses;
+  labelCauses = labelCauses;
+  SameLabel = SameButCase;
+  SameText = _≡_;
+}

@@ -1,0 +1,78 @@
+-- Every scheme's codec is faithful, and what encoding and decoding by scheme have of it.
+use Prim.Native.Nat.{ℕ, _≤_, _<_}
+use mathlib.Core.Path.{_≡_, refl}
+use mathlib.Core.Bool.{true}
+use mathlib.Core.Logic.{_↔_, Iff·rfl}
+use mathlib.Core.List.{List}
+use lib.ListN.{length, getD}
+use native.Mathlib.Omega.{arith}
+use Rattle.basis.specs.Case.{SameButCase}
+use Rattle.basis.specs.Outcome.{done}
+use Rattle.basis.specs.Causes.{whole}
+use Rattle.basis.specs.Codec.{Writable, Readable}
+use Rattle.basis.proofs.Case.{same-but-case}
+use Rattle.basis.proofs.Codec.{Faithful}
+use Rattle.utf16.specs.Points.{isText}
+use Rattle.utf16.proofs.Surrogates.{text-at, point-top}
+use Rattle.labels.proofs.Causes.{some-iff, short-iff, TextAndLabel, writable-iff}
+use Rattle.altdude.proofs.DecodeLaws as altdude
+use Rattle.altdude_facts.proofs.Faithful.{altdude-faithful}
+use Rattle.lace_facts.proofs.Label as lace
+use Rattle.lace_facts.proofs.Faithful.{lace-faithful}
+use Rattle.scheme.specs.Coding.{codecOf, encodeOutcome, decodeOutcome, labelOf, textOf}
+use Rattle.scheme.specs.declared.Scheme.{Scheme}
+use Rattle.scheme.specs.declared.Scheme.the-variants.{Altdude, Lace}
+
+-- by scheme: its codec is faithful
+pub faithful : (s : Scheme) → Faithful (codecOf s)
+faithful Altdude = altdude-faithful
+faithful Lace = lace-faithful
+
+-- a text that may be written has one point or more and a label of at most 63 bytes
+pub writable-text : (s : Scheme) (t : List ℕ) → Writable (codecOf s) t → TextAndLabel t (labelOf s t)
+writable-text Altdude t w = writable-iff (whole 5 _) t _ .0 w .0
+writable-text Lace t w = writable-iff (whole 6 _) t _ .0 w .0
+
+-- a label that may be read has 1 to 63 bytes
+readable-long : (s : Scheme) (l : List ℕ) → Readable (codecOf s) l → (1 ≤ length l) × (length l ≤ 63)
+readable-long Altdude l r = (some-iff l .0 (r .0), short-iff l .0 (r .1 .0))
+readable-long Lace l r = (some-iff l .0 (r .0), short-iff l .0 (r .1 .0))
+
+-- a text has at most as many points as its label has bytes
+text-fits : (s : Scheme) (l : List ℕ) → length (textOf s l) ≤ length l
+text-fits Altdude = altdude.text-fits
+text-fits Lace = lace.text-fits
+
+-- labels are the same that differ at most in case
+pub label-case : (s : Scheme) (l m : List ℕ) → codecOf s .SameLabel l m ↔ SameButCase l m
+label-case Altdude l m = Iff·rfl
+label-case Lace l m = Iff·rfl
+
+-- the label of a text that may be written has one byte or more
+pub label-some : (s : Scheme) (t : List ℕ) → Writable (codecOf s) t → 1 ≤ length (labelOf s t)
+label-some s t w = readable-long s (labelOf s t) (faithful s .readable t (labelOf s t) w (label-case s _ _ .1 (same-but-case _ (labelOf s t) .1 refl))) .0
+
+-- a label that is written has at most 63 bytes
+pub encoded-short : (s : Scheme) (capacity n : ℕ) (t : List ℕ) → encodeOutcome s capacity t ≡ done n → n ≤ 63
+encoded-short s capacity n t e = let q = faithful s .encoding capacity t .succeeds n .0 e in rw (q .1) (writable-text s t (q .0 .1) .short)
+
+-- what is decoded: its text may be written, and has at most 63 points
+module _ (s : Scheme) (capacity n : ℕ) (l : List ℕ) (e : decodeOutcome s capacity l ≡ done n) where
+  pub decoded-readable : Readable (codecOf s) l
+  decoded-readable = faithful s .decoding capacity l .succeeds n .0 e .0 .1
+
+  pub decoded-count : n ≡ length (textOf s l)
+  decoded-count = faithful s .decoding capacity l .succeeds n .0 e .1
+
+  pub decoded-writable : Writable (codecOf s) (textOf s l)
+  decoded-writable = faithful s .writable l decoded-readable
+
+  pub decoded-text : isText (textOf s l) ≡ true
+  decoded-text = writable-text s (textOf s l) decoded-writable .text
+
+  pub decoded-short : length (textOf s l) ≤ 63
+  decoded-short = omega (arith, text-fits s l, readable-long s l decoded-readable .1)
+
+  -- so each of its points is at most 10FFFF hex
+  pub decoded-low : (i : ℕ) → i < length (textOf s l) → getD (textOf s l) i 0 ≤ 0x10ffff
+  decoded-low i h = point-top _ (text-at (textOf s l) i decoded-text h)

@@ -1,0 +1,2 @@
+-- Laws on the row of an answer.
+pub mod Row

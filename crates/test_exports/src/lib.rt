@@ -1,0 +1,96 @@
+// Each public entry, exported to C for tests alone. In `answer` each stores five numbers, if it has five elements or more: code
+// (0 when done), position, count, and for an entry of a table reader number and scheme number.
+mod answers;
+
+use utf16::PointCount;
+use utf16::UnitCount;
+ghost use mathlib.Core.Path.{_≡_};
+ghost use lib.ListN.{length, take};
+ghost use Rattle.basis.specs.Outcome.{bufferAfter};
+ghost use Rattle.utf16.specs.Units.{toUnits, toPoints};
+ghost use Rattle.utf16.specs.Answer.{toUnitsOutcome, toPointsOutcome};
+ghost use Rattle.altdude.specs.Encoding.{labelOf as altdudeLabelOf};
+ghost use Rattle.altdude.specs.Decoding.{textOf as altdudeTextOf};
+ghost use Rattle.altdude.specs.Answer.{encodeOutcome as altdudeEncodeOutcome, decodeOutcome as altdudeDecodeOutcome};
+ghost use Rattle.lace.specs.Octets.{isAllLdh};
+ghost use Rattle.lace.specs.Encoding.{labelOf as laceLabelOf};
+ghost use Rattle.lace.specs.Decoding.{textOf as laceTextOf};
+ghost use Rattle.lace.specs.Answer.{encodeOutcome as laceEncodeOutcome, decodeOutcome as laceDecodeOutcome};
+ghost use Rattle.nametable.specs.Answer.{readOutcome, findOutcome, counted, entryText};
+ghost use Rattle.test_exports.specs.Answer.{numbersOf, entryNumbersOf, answerAfter};
+
+// Exports `utf16::to_units`.
+#[no_mangle]
+pub extern "C" fn test_to_units(points: &[u32], count: usize, units: &mut [u16], answer: &mut [u64])
+    ensures { λ _. ⌜ now (units .exit) ≡ bufferAfter (toUnitsOutcome (now (points .entry)) count (length (now (units .entry)))) (toUnits (take count (now (points .entry)))) (now (units .entry)) ⌝ }
+    ensures { λ _. ⌜ now (answer .exit) ≡ answerAfter (numbersOf (toUnitsOutcome (now (points .entry)) count (length (now (units .entry))))) (now (answer .entry)) ⌝ }
+{
+    answers::store_units(utf16::to_units(points, PointCount(count), units), answer);
+}
+
+// Exports `utf16::to_points`.
+#[no_mangle]
+pub extern "C" fn test_to_points(
+    units: &[u16],
+    count: usize,
+    points: &mut [u32],
+    answer: &mut [u64],
+)
+    ensures { λ _. ⌜ now (points .exit) ≡ bufferAfter (toPointsOutcome (now (units .entry)) count (length (now (points .entry)))) (toPoints (take count (now (units .entry)))) (now (points .entry)) ⌝ }
+    ensures { λ _. ⌜ now (answer .exit) ≡ answerAfter (numbersOf (toPointsOutcome (now (units .entry)) count (length (now (points .entry))))) (now (answer .entry)) ⌝ }
+{
+    answers::store_points(utf16::to_points(units, UnitCount(count), points), answer);
+}
+
+// Exports `altdude::encode`.
+#[no_mangle]
+pub extern "C" fn test_altdude_encode(text: &[u32], label: &mut [u8], answer: &mut [u64])
+    ensures { λ _. ⌜ now (label .exit) ≡ bufferAfter (altdudeEncodeOutcome (length (now (label .entry))) (now (text .entry))) (altdudeLabelOf (now (text .entry))) (now (label .entry)) ⌝ }
+    ensures { λ _. ⌜ now (answer .exit) ≡ answerAfter (numbersOf (altdudeEncodeOutcome (length (now (label .entry))) (now (text .entry)))) (now (answer .entry)) ⌝ }
+{
+    answers::store_bytes(altdude::encode(text, label), answer);
+}
+
+// Exports `altdude::decode`.
+#[no_mangle]
+pub extern "C" fn test_altdude_decode(label: &[u8], text: &mut [u32], answer: &mut [u64])
+    ensures { λ _. ⌜ now (text .exit) ≡ bufferAfter (altdudeDecodeOutcome (length (now (text .entry))) (now (label .entry))) (altdudeTextOf (now (label .entry))) (now (text .entry)) ⌝ }
+    ensures { λ _. ⌜ now (answer .exit) ≡ answerAfter (numbersOf (altdudeDecodeOutcome (length (now (text .entry))) (now (label .entry)))) (now (answer .entry)) ⌝ }
+{
+    answers::store_points(altdude::decode(label, text), answer);
+}
+
+// Exports `lace::encode`.
+#[no_mangle]
+pub extern "C" fn test_lace_encode(text: &[u32], label: &mut [u8], answer: &mut [u64])
+    ensures { λ _. ⌜ now (label .exit) ≡ bufferAfter (laceEncodeOutcome isAllLdh (length (now (label .entry))) (now (text .entry))) (laceLabelOf (now (text .entry))) (now (label .entry)) ⌝ }
+    ensures { λ _. ⌜ now (answer .exit) ≡ answerAfter (numbersOf (laceEncodeOutcome isAllLdh (length (now (label .entry))) (now (text .entry)))) (now (answer .entry)) ⌝ }
+{
+    answers::store_bytes(lace::encode(text, label), answer);
+}
+
+// Exports `lace::decode`.
+#[no_mangle]
+pub extern "C" fn test_lace_decode(label: &[u8], text: &mut [u32], answer: &mut [u64])
+    ensures { λ _. ⌜ now (text .exit) ≡ bufferAfter (laceDecodeOutcome isAllLdh (length (now (text .entry))) (now (label .entry))) (laceTextOf (now (label .entry))) (now (text .entry)) ⌝ }
+    ensures { λ _. ⌜ now (answer .exit) ≡ answerAfter (numbersOf (laceDecodeOutcome isAllLdh (length (now (text .entry))) (now (label .entry)))) (now (answer .entry)) ⌝ }
+{
+    answers::store_points(lace::decode(label, text), answer);
+}
+
+// Exports `nametable::read`.
+#[no_mangle]
+pub extern "C" fn test_table_read(table: &[u8], answer: &mut [u64])
+    ensures { λ _. ⌜ now (answer .exit) ≡ answerAfter (numbersOf (readOutcome (now (table .entry)))) (now (answer .entry)) ⌝ }
+{
+    answers::store_table(nametable::read(table), answer);
+}
+
+// Exports `nametable::entry`.
+#[no_mangle]
+pub extern "C" fn test_table_entry(table: &[u8], index: usize, text: &mut [u32], answer: &mut [u64])
+    ensures { λ _. ⌜ now (text .exit) ≡ bufferAfter (counted (findOutcome (now (table .entry)) index (length (now (text .entry))))) (entryText (now (table .entry)) index) (now (text .entry)) ⌝ }
+    ensures { λ _. ⌜ now (answer .exit) ≡ answerAfter (entryNumbersOf (findOutcome (now (table .entry)) index (length (now (text .entry))))) (now (answer .entry)) ⌝ }
+{
+    answers::store_entry(nametable::entry(table, index, text), answer);
+}

@@ -1,0 +1,123 @@
+//! The functions that are compared, all in one shape: what the proved library
+//! exports for tests, and the two functions of the C interface.
+
+use crate::c_interface::{self, ERROR_BASE};
+use crate::error::Error;
+use crate::scheme::Scheme;
+use crate::utf16::{self, PointCount, UnitCount};
+use crate::{altdude, lace, nametable};
+
+/// Code (0 when done), position, count, and for an entry of a table reader
+/// number and scheme number.
+pub type Numbers = [u64; 5];
+
+/// A function on the row given, the number beside it (a count, an index or a
+/// scheme number, else it is not looked at), the buffer to fill, and the row in
+/// which the five numbers of the answer are stored.
+pub type Function<G, B> = fn(&[G], usize, &mut [B], &mut [u64]);
+
+/// The functions of an implementation, and what it is called. Reading a table
+/// fills no buffer.
+#[derive(Clone, Copy)]
+pub struct Implementation {
+    pub name: &'static str,
+    pub to_units: Function<u32, u16>,
+    pub to_points: Function<u16, u32>,
+    pub altdude_encode: Function<u32, u8>,
+    pub altdude_decode: Function<u8, u32>,
+    pub lace_encode: Function<u32, u8>,
+    pub lace_decode: Function<u8, u32>,
+    pub table_read: Function<u8, u8>,
+    pub table_entry: Function<u8, u32>,
+    pub write: Function<u8, u8>,
+    pub read: Function<u8, u8>,
+}
+
+impl Implementation {
+    /// The function that encodes under a scheme.
+    pub fn encode(&self, scheme: Scheme) -> Function<u32, u8> {
+        match scheme {
+            Scheme::AltDude => self.altdude_encode,
+            Scheme::Lace => self.lace_encode,
+        }
+    }
+
+    /// The function that decodes under a scheme.
+    pub fn decode(&self, scheme: Scheme) -> Function<u8, u32> {
+        match scheme {
+            Scheme::AltDude => self.altdude_decode,
+            Scheme::Lace => self.lace_decode,
+        }
+    }
+}
+
+/// The independent implementation.
+pub const INDEPENDENT: Implementation = Implementation {
+    name: "independent",
+    to_units: |points, count, units, answer| {
+        let counted = utf16::to_units(points, PointCount(count), units);
+        store(numbers(counted.map(|count| count.0)), answer);
+    },
+    to_points: |units, count, points, answer| {
+        let counted = utf16::to_points(units, UnitCount(count), points);
+        store(numbers(counted.map(|count| count.0)), answer);
+    },
+    altdude_encode: |text, _, label, answer| store(numbers(altdude::encode(text, label)), answer),
+    altdude_decode: |label, _, text, answer| store(numbers(altdude::decode(label, text)), answer),
+    lace_encode: |text, _, label, answer| store(numbers(lace::encode(text, label)), answer),
+    lace_decode: |label, _, text, answer| store(numbers(lace::decode(label, text)), answer),
+    table_read: |table, _, _, answer| store(numbers(nametable::read(table)), answer),
+    table_entry: |table, index, text, answer| {
+        store(entry_numbers(nametable::entry(table, index, text)), answer);
+    },
+    write: |text, scheme, label, answer| {
+        store(interface_numbers(c_interface::write(scheme as u32, text, label)), answer);
+    },
+    read: |label, scheme, text, answer| {
+        store(interface_numbers(c_interface::read(scheme as u32, label, text)), answer);
+    },
+};
+
+/// The implementations at hand: the independent one, and with the feature
+/// `proved` the proved one.
+pub fn implementations() -> Vec<Implementation> {
+    vec![
+        INDEPENDENT,
+        #[cfg(feature = "proved")]
+        crate::proved::PROVED,
+    ]
+}
+
+/// Stores the five numbers in a row that is long enough. A shorter row is left
+/// as it is.
+pub fn store(numbers: Numbers, answer: &mut [u64]) {
+    if let Some(front) = answer.get_mut(..numbers.len()) {
+        front.copy_from_slice(&numbers);
+    }
+}
+
+/// The five numbers of a count or an error.
+fn numbers(answer: Result<usize, Error>) -> Numbers {
+    match answer {
+        Ok(count) => [0, 0, count as u64, 0, 0],
+        Err(error) => [u64::from(error.number()), error.position as u64, 0, 0, 0],
+    }
+}
+
+/// The five numbers of an entry or an error.
+fn entry_numbers(answer: Result<nametable::Entry, Error>) -> Numbers {
+    let mut five = numbers(answer.map(|entry| entry.count));
+    if let Ok(entry) = answer {
+        five[3] = u64::from(entry.reader);
+        five[4] = u64::from(entry.scheme.number());
+    }
+    five
+}
+
+/// The one number of the C interface as five: it tells code and count.
+pub fn interface_numbers(number: u32) -> Numbers {
+    match number.checked_sub(ERROR_BASE) {
+        Some(code) => [u64::from(code), 0, 0, 0, 0],
+        None => [0, 0, u64::from(number), 0, 0],
+    }
+}

@@ -1,0 +1,111 @@
+//! Name tables, whole, cut and damaged.
+
+use super::labels::{label, lawful};
+use super::Source;
+use crate::nametable::{ENTRIES_MAX, ENTRY_LENGTH, HEADER_LENGTH};
+use crate::papers::table_of;
+use crate::point::LABEL_MAX;
+use crate::scheme::Scheme;
+
+/// A table of so many entries in order, with lawful labels.
+pub fn whole_table(source: &mut Source, entries: usize) -> Vec<u8> {
+    // The reader numbers stay below 65,536 where they begin with one of these.
+    let step = source.pick(&[1, 2, 500 / entries]).max(1) as u16;
+    let mut reader = source.pick(&[0, 1, 7, 255, 256, 65_535 - (entries - 1) as u16 * step]);
+    let mut rows = Vec::new();
+    for index in 0..entries {
+        let scheme = source.pick(&[Scheme::AltDude, Scheme::Lace]);
+        rows.push((scheme.kind(), reader, lawful(source, scheme)));
+        if index + 1 < entries {
+            reader += step;
+        }
+    }
+    table_of(&rows)
+}
+
+/// How many entries a table has: few, seldom many, now and then the most.
+fn entries(source: &mut Source) -> usize {
+    if source.once_in(2000) {
+        return ENTRIES_MAX;
+    }
+    match source.below(64) {
+        0 => source.between(6, 60),
+        _ => source.between(1, 5),
+    }
+}
+
+/// Puts another label, lawful or not, into the entry that begins at an index.
+fn change_label(source: &mut Source, table: &mut [u8], start: usize) {
+    let scheme = Scheme::of_kind(table[start]).unwrap_or(Scheme::Lace);
+    let label = label(source, scheme);
+    let length = label.len().min(LABEL_MAX);
+    table[start + 3] = length as u8;
+    table[start + 4..start + ENTRY_LENGTH].fill(0);
+    table[start + 4..start + 4 + length].copy_from_slice(&label[..length]);
+}
+
+/// One fault of the entry that begins at an index of the table.
+fn entry_fault(source: &mut Source, table: &mut [u8], start: usize) {
+    let length = usize::from(table[start + 3]).clamp(1, LABEL_MAX);
+    match source.below(10) {
+        0 => table[start] = source.pick(&[0x00, 0x40, 0x48, 0x61, 0x6C]),
+        1 => table[start] = source.pick(&[0x41, 0x4C]),
+        2 => table[start + 1] = source.pick(&[0x00, 0xFF]),
+        3 => table[start + 2] = source.byte(),
+        4 => table[start + 3] = source.pick(&[0, 1, 62, 63, 64, 67, 255]),
+        5 => table[start + 3] = (length + source.below(3) - 1) as u8,
+        6 => table[start + 4 + source.below(63)] = source.pick(&[0x00, 0x01, 0x61, 0x2D]),
+        // the reader number of the entry before
+        7 if start > ENTRY_LENGTH => table.copy_within(start - 66..start - 64, start + 1),
+        8 => table[start + 3..start + ENTRY_LENGTH].fill(0),
+        _ => table[start + 4 + source.below(length)] = source.pick(b"absx7-LQ\x00\x0D"),
+    }
+}
+
+/// One fault of the header: its kind, or a count that is not that of the entries.
+fn header_fault(source: &mut Source, table: &mut [u8]) {
+    match source.below(4) {
+        0 => table[0] = source.pick(&[0x00, 0x41, 0x47, 0x49, 0x4C, 0x68]),
+        1 => table[source.below(HEADER_LENGTH)] = source.byte(),
+        2 => table[2] = table[2].wrapping_add(source.pick(&[1, 255])),
+        _ => {
+            let count: u16 = source.pick(&[0, 500, 501, 65_535]);
+            table[1..HEADER_LENGTH].copy_from_slice(&count.to_be_bytes());
+        }
+    }
+}
+
+/// One fault of a table of whatever length: at any byte, in an entry, in the
+/// header, or in the length.
+fn fault(source: &mut Source, table: &mut Vec<u8>) {
+    let entries = table.len().saturating_sub(HEADER_LENGTH) / ENTRY_LENGTH;
+    let at_entry = |source: &mut Source| HEADER_LENGTH + ENTRY_LENGTH * source.below(entries);
+    match source.below(12) {
+        0 | 1 => table.truncate(source.below(table.len() + 1)),
+        2 => table.extend(vec![source.byte(); source.pick(&[1, 1, ENTRY_LENGTH])]),
+        3 if table.len() >= HEADER_LENGTH => header_fault(source, table),
+        4 | 5 if !table.is_empty() => {
+            let position = source.below(table.len());
+            table[position] = source.byte();
+        }
+        6..=8 if entries > 0 => {
+            let start = at_entry(source);
+            entry_fault(source, table, start);
+        }
+        _ if entries > 0 => {
+            let start = at_entry(source);
+            change_label(source, table, start);
+        }
+        _ => {}
+    }
+}
+
+/// A table: whole, or with up to three faults.
+pub fn table(source: &mut Source) -> Vec<u8> {
+    let entries = entries(source);
+    let mut table = whole_table(source, entries);
+    for _ in 0..source.faults() {
+        fault(source, &mut table);
+    }
+    table
+}

@@ -1,0 +1,137 @@
+//! The proved library: the functions of its two archives, as a C program sees
+//! them. A slice is a pointer and a length.
+
+use crate::functions::{interface_numbers, store, Implementation};
+
+// libtest_exports.a
+extern "C" {
+    fn test_to_units(
+        points: *const u32,
+        points_len: usize,
+        count: usize,
+        units: *mut u16,
+        units_len: usize,
+        answer: *mut u64,
+        answer_len: usize,
+    );
+    fn test_to_points(
+        units: *const u16,
+        units_len: usize,
+        count: usize,
+        points: *mut u32,
+        points_len: usize,
+        answer: *mut u64,
+        answer_len: usize,
+    );
+    fn test_altdude_encode(
+        text: *const u32,
+        text_len: usize,
+        label: *mut u8,
+        label_len: usize,
+        answer: *mut u64,
+        answer_len: usize,
+    );
+    fn test_altdude_decode(
+        label: *const u8,
+        label_len: usize,
+        text: *mut u32,
+        text_len: usize,
+        answer: *mut u64,
+        answer_len: usize,
+    );
+    fn test_lace_encode(
+        text: *const u32,
+        text_len: usize,
+        label: *mut u8,
+        label_len: usize,
+        answer: *mut u64,
+        answer_len: usize,
+    );
+    fn test_lace_decode(
+        label: *const u8,
+        label_len: usize,
+        text: *mut u32,
+        text_len: usize,
+        answer: *mut u64,
+        answer_len: usize,
+    );
+    fn test_table_read(table: *const u8, table_len: usize, answer: *mut u64, answer_len: usize);
+    fn test_table_entry(
+        table: *const u8,
+        table_len: usize,
+        index: usize,
+        text: *mut u32,
+        text_len: usize,
+        answer: *mut u64,
+        answer_len: usize,
+    );
+}
+
+// libfirmware.a, declared in include/distelhut.h
+extern "C" {
+    fn distelhut_write(
+        scheme: u32,
+        text: *const u8,
+        text_len: usize,
+        label: *mut u8,
+        label_len: usize,
+    ) -> u32;
+    fn distelhut_read(
+        scheme: u32,
+        label: *const u8,
+        label_len: usize,
+        text: *mut u8,
+        text_len: usize,
+    ) -> u32;
+}
+
+/// Writes a big-endian UTF-16 text as a label.
+pub fn write(scheme: u32, text: &[u8], label: &mut [u8]) -> u32 {
+    // SAFETY: slices are never null, never overlap, and are as long as they say.
+    unsafe { distelhut_write(scheme, text.as_ptr(), text.len(), label.as_mut_ptr(), label.len()) }
+}
+
+/// Reads a label as a big-endian UTF-16 text.
+pub fn read(scheme: u32, label: &[u8], text: &mut [u8]) -> u32 {
+    // SAFETY: slices are never null, never overlap, and are as long as they say.
+    unsafe { distelhut_read(scheme, label.as_ptr(), label.len(), text.as_mut_ptr(), text.len()) }
+}
+
+/// Calls an exported function on slices and numbers; each slice is passed as a
+/// pointer and a length.
+macro_rules! call {
+    ($function:ident, $given:ident, [$($number:ident)?], [$($buffer:ident),*]) => {
+        // SAFETY: slices are never null, never overlap, and are as long as they say.
+        unsafe {
+            $function(
+                $given.as_ptr(),
+                $given.len(),
+                $($number,)?
+                $($buffer.as_mut_ptr(), $buffer.len()),*
+            )
+        }
+    };
+}
+
+/// The proved library.
+pub const PROVED: Implementation = Implementation {
+    name: "proved",
+    to_units: |points, count, units, answer| call!(test_to_units, points, [count], [units, answer]),
+    to_points: |units, count, points, answer| {
+        call!(test_to_points, units, [count], [points, answer])
+    },
+    altdude_encode: |text, _, label, answer| call!(test_altdude_encode, text, [], [label, answer]),
+    altdude_decode: |label, _, text, answer| call!(test_altdude_decode, label, [], [text, answer]),
+    lace_encode: |text, _, label, answer| call!(test_lace_encode, text, [], [label, answer]),
+    lace_decode: |label, _, text, answer| call!(test_lace_decode, label, [], [text, answer]),
+    table_read: |table, _, _, answer| call!(test_table_read, table, [], [answer]),
+    table_entry: |table, index, text, answer| {
+        call!(test_table_entry, table, [index], [text, answer])
+    },
+    write: |text, scheme, label, answer| {
+        store(interface_numbers(write(scheme as u32, text, label)), answer);
+    },
+    read: |label, scheme, text, answer| {
+        store(interface_numbers(read(scheme as u32, label, text)), answer);
+    },
+};

@@ -1,0 +1,186 @@
+//! The name table: reading it, and reading one entry. On each implementation at
+//! hand.
+
+mod shared;
+
+use distelhut_host::functions::{implementations, Implementation};
+use distelhut_host::papers::{sample_table, table_of};
+use shared::{called, numbers, Error};
+
+/// The number of entries, or the error.
+fn verdict(one: &Implementation, table: &[u8]) -> Result<u64, Error> {
+    numbers(one.table_read, table, 0, &mut []).map(|five| five[2])
+}
+
+/// The reader number, the scheme number and the points of an entry, or the error.
+fn entry(one: &Implementation, table: &[u8], index: usize) -> Result<(u64, u64, Vec<u32>), Error> {
+    let [_, _, _, reader, scheme] = numbers(one.table_entry, table, index, &mut [0; 63])?;
+    Ok((reader, scheme, called(one.table_entry, table, index, 63)?))
+}
+
+fn changed(changes: &[(usize, u8)]) -> Vec<u8> {
+    let mut table = sample_table();
+    for &(position, byte) in changes {
+        table[position] = byte;
+    }
+    table
+}
+
+#[test]
+fn the_papers_table() {
+    let table = sample_table();
+    assert_eq!(table.len(), 137);
+    for one in implementations() {
+        assert_eq!(verdict(&one, &table), Ok(2));
+        assert_eq!(entry(&one, &table, 0), Ok((7, 1, vec![0xFC])));
+        assert_eq!(entry(&one, &table, 1), Ok((300, 2, vec![0xFC])));
+    }
+}
+
+#[test]
+fn cut_at_every_byte() {
+    let table = sample_table();
+    for one in implementations() {
+        for length in 0..table.len() {
+            assert_eq!(verdict(&one, &table[..length]), Err((13, 0)));
+            for index in [0, 1, 2, usize::MAX] {
+                assert_eq!(entry(&one, &table[..length], index), Err((13, 0)));
+            }
+        }
+    }
+}
+
+#[test]
+fn one_byte_more() {
+    let mut table = sample_table();
+    table.push(0);
+    for one in implementations() {
+        assert_eq!(verdict(&one, &table), Err((14, 0)));
+        assert_eq!(entry(&one, &table, 0), Err((14, 0)));
+    }
+}
+
+#[test]
+fn headers() {
+    let headers: [(&[u8], u64); 9] = [
+        (&[], 13),
+        (&[0x48], 13),
+        (&[0x49], 14),
+        (&[0x48, 0x01], 13),
+        (&[0x49, 0x01], 14),
+        (&[0x48, 0x00, 0x00], 14),
+        (&[0x48, 0x01, 0xF4], 13),
+        (&[0x48, 0x01, 0xF5], 14),
+        (&[0x48, 0xFF, 0xFF], 14),
+    ];
+    for one in implementations() {
+        for (header, code) in headers {
+            assert_eq!(verdict(&one, header), Err((code, 0)), "{header:X?}");
+        }
+    }
+}
+
+#[test]
+fn each_rule_of_an_entry() {
+    let bad: [(&[(usize, u8)], u64); 13] = [
+        (&[(3, 0x48)], 0),
+        (&[(70, 0x00)], 1),
+        (&[(70, 0x6C)], 1),
+        (&[(71, 0x00), (72, 0x07)], 1),
+        (&[(71, 0x00), (72, 0x06)], 1),
+        (&[(6, 0)], 0),
+        (&[(6, 64)], 0),
+        (&[(6, 1)], 0),
+        (&[(73, 255)], 1),
+        (&[(73, 8)], 1),
+        (&[(69, 1)], 0),
+        (&[(136, 1)], 1),
+        (&[(9, 1)], 0),
+    ];
+    for one in implementations() {
+        for (changes, position) in bad {
+            let answer = verdict(&one, &changed(changes));
+            assert_eq!(answer, Err((14, position)), "{changes:?}");
+        }
+        assert_eq!(verdict(&one, &changed(&[(71, 0x00), (72, 0x08)])), Ok(2));
+    }
+}
+
+#[test]
+fn an_error_of_a_label_has_the_index_of_the_entry() {
+    let labels: [(u8, &[u8], u64); 9] = [
+        (0x41, b"3l", 7),
+        (0x41, b"-b", 5),
+        (0x41, b"sb", 9),
+        (0x41, b"lq--74apy", 7),
+        (0x4C, b"lq--74ap0", 7),
+        (0x4C, b"3n", 8),
+        (0x4C, b"lq--", 9),
+        (0x4C, b"lq--74apz", 9),
+        (0x4C, b"lq--aiagcyq", 6),
+    ];
+    for one in implementations() {
+        for (kind, label, code) in labels {
+            let table = table_of(&[(0x41, 1, b"3n".to_vec()), (kind, 2, label.to_vec())]);
+            assert_eq!(verdict(&one, &table), Err((code, 1)));
+            assert_eq!(entry(&one, &table, 0), Err((code, 1)));
+            assert_eq!(entry(&one, &table, 7), Err((code, 1)));
+        }
+    }
+}
+
+#[test]
+fn order_within_an_entry() {
+    for one in implementations() {
+        // Kind before number, number before length, length before filling, filling
+        // before label: all are 14, but a label's code shows only at the end.
+        assert_eq!(verdict(&one, &changed(&[(82, 0x7A), (136, 1)])), Err((14, 1)));
+        assert_eq!(verdict(&one, &changed(&[(82, 0x7A)])), Err((9, 1)));
+        // The label of an entry comes before the kind of a later one.
+        assert_eq!(verdict(&one, &changed(&[(7, b's'), (70, 0)])), Err((9, 0)));
+        // A zero inside the counted label is a byte of the label, not filling.
+        assert_eq!(verdict(&one, &changed(&[(6, 3)])), Err((7, 0)));
+    }
+}
+
+#[test]
+fn capacity_before_table_before_index() {
+    let table = sample_table();
+    for one in implementations() {
+        assert_eq!(called(one.table_entry, &[], 0, 62), Err((1, 0)));
+        assert_eq!(called(one.table_entry, &table, 0, 62), Err((1, 0)));
+        assert_eq!(entry(&one, &table, 2), Err((14, 0)));
+        assert_eq!(entry(&one, &table, 1 << 63), Err((14, 0)));
+        assert_eq!(entry(&one, &table, usize::MAX), Err((14, 0)));
+    }
+}
+
+#[test]
+fn reader_number_zero_is_lawful() {
+    let entry = |reader: u16| (0x41, reader, b"3n".to_vec());
+    for one in implementations() {
+        let verdict = |entries: &[_]| verdict(&one, &table_of(entries));
+        assert_eq!(verdict(&[entry(0), entry(1), entry(65535)]), Ok(3));
+        assert_eq!(verdict(&[entry(0), entry(0)]), Err((14, 1)));
+        assert_eq!(verdict(&[entry(0), entry(1), entry(1)]), Err((14, 2)));
+        assert_eq!(verdict(&[entry(256), entry(255)]), Err((14, 1)));
+    }
+}
+
+#[test]
+fn the_longest_table() {
+    let row = |reader: u16| (0x41, reader, b"3n".to_vec());
+    let rows: Vec<_> = (0..501).map(row).collect();
+    for one in implementations() {
+        let mut table = table_of(&rows[..500]);
+        assert_eq!(table.len(), 33_503);
+        assert_eq!(verdict(&one, &table), Ok(500));
+        assert_eq!(entry(&one, &table, 499), Ok((499, 1, vec![0xFC])));
+        assert_eq!(entry(&one, &table, 500), Err((14, 0)));
+        table[33_503 - 67 + 4] = b's';
+        assert_eq!(verdict(&one, &table), Err((9, 499)));
+        table.push(0);
+        assert_eq!(verdict(&one, &table), Err((14, 0)));
+        assert_eq!(verdict(&one, &table_of(&rows)), Err((14, 0)));
+    }
+}

@@ -1,0 +1,49 @@
+//! One call of a function, and what it answers.
+
+use distelhut_host::functions::{Function, Numbers};
+use std::fmt::Debug;
+
+/// An error's code and position.
+pub type Error = (u64, u64);
+
+/// Calls a function. Answers the five numbers, or the error, whose other
+/// numbers are 0.
+pub fn numbers<G, B>(
+    function: Function<G, B>,
+    given: &[G],
+    number: usize,
+    buffer: &mut [B],
+) -> Result<Numbers, Error> {
+    let mut five = [u64::MAX; 5];
+    function(given, number, buffer, &mut five);
+    match five {
+        [0, position, ..] => {
+            assert_eq!(position, 0);
+            Ok(five)
+        }
+        [code, position, rest @ ..] => {
+            assert_eq!(rest, [0, 0, 0]);
+            Err((code, position))
+        }
+    }
+}
+
+/// Calls a function with a buffer of a capacity. Answers the elements written,
+/// or the error; what was not written is as it was.
+pub fn called<G, B>(
+    function: Function<G, B>,
+    given: &[G],
+    number: usize,
+    capacity: usize,
+) -> Result<Vec<B>, Error>
+where
+    B: Copy + Debug + PartialEq + From<u8>,
+{
+    let held = B::from(0x5A);
+    let mut buffer = vec![held; capacity];
+    let answer = numbers(function, given, number, &mut buffer);
+    let count = answer.map_or(0, |five| five[2] as usize);
+    assert!(buffer[count..].iter().all(|&element| element == held));
+    buffer.truncate(count);
+    answer.map(|_| buffer)
+}
