@@ -59,7 +59,7 @@ extern "C" {
  *
  * The functions keep no state, and may be called from any thread at any time. They take no memory from a heap. The archive
  * has 7 KB of code and constants and needs one symbol, memset. A call needs 1,128 bytes of stack to write and 664 to read, and
- * what memset needs; this is measured and not proved.
+ * what memset needs: the most in measured calls, and not proved.
  *
  * The caller owes the following, and nothing is promised otherwise:
  *   - both pointers are valid for as many bytes as their lengths say: the first to read, the second to read and write;

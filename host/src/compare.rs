@@ -129,11 +129,21 @@ struct Pair<G, B> {
 }
 
 impl<G: Element, B: Element> Pair<G, B> {
-    /// Makes a call of both functions. Answers the five numbers, or says how the
-    /// two differ or what they changed and must not.
+    /// Makes a call of both functions, and again with room for the five numbers
+    /// if the answer row was too short to show them.
     fn compared(&self, source: &mut Source) -> Result<Numbers, String> {
         let call = (self.call)(source);
-        let before = Memory::before(source, &call);
+        let numbers = self.called(source, &call)?;
+        if call.answer < numbers.len() {
+            return self.called(source, &Call { answer: numbers.len(), ..call });
+        }
+        Ok(numbers)
+    }
+
+    /// Makes a call of both functions. Answers the five numbers, or says how the
+    /// two differ or what they changed and must not.
+    fn called(&self, source: &mut Source, call: &Call<G>) -> Result<Numbers, String> {
+        let before = Memory::before(source, call);
         let [mut one, mut other] = [before.clone(), before.clone()];
         let numbers = one.call_and_store(self.functions[0], call.number);
         other.call(self.functions[1], call.number);

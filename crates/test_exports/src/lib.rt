@@ -1,5 +1,5 @@
-// Each public entry, exported to C for tests alone. In `answer` each stores five numbers, if it has five elements or more: code
-// (0 when done), position, count, and for an entry of a table reader number and scheme number.
+// The converter, both schemes and the book, exported to C for tests alone. In `answer` each stores five numbers, if it has
+// five elements or more: code (0 when done), position, count, and for an entry of a table reader number and scheme number.
 mod answers;
 
 use utf16::PointCount;
