@@ -8,7 +8,7 @@ use lib.Dec.{ltb}
 use borrow.Author.Tests.{ltb-true, ltb-false, lt-ltb}
 use native.Mathlib.Omega.{arith}
 use Rattle.basis.specs.Tests.{firstBelow, IsFirst}
-use Rattle.basis.specs.Outcome.{Outcome, done, refused, refusedIf}
+use Rattle.basis.specs.Outcome.{Outcome, done, refused, refusedIf, andThen}
 use Rattle.basis.specs.Causes.{Cause, whole, placed, moved, movedAll, Absent, NoCause, FirstCause, Settles}
 use Rattle.basis.proofs.Outcome.{done-not-refused}
 use Rattle.basis.proofs.Tests.{cases, by-lt, true-not-false, first-le, first-is, first-at}
@@ -86,16 +86,12 @@ some-cause [] number p h none = h
 some-cause (c ∷ cs) number p (inl h) none = none .0 p (h .1)
 some-cause (c ∷ cs) number p (inr h) none = some-cause cs number p (h .1) (none .1)
 
--- an outcome whose refusals are told at other positions, and after which another decides
-unfoldable pub thenMoved : (ℕ → ℕ) → Outcome → Outcome → Outcome
-thenMoved f (done n) next = next
-thenMoved f (refused number p) next = refused number (f p)
-
-pub settle-moved : (f : ℕ → ℕ) (cs later : List Cause) (count total : ℕ) (outcome next : Outcome) → Settles cs count outcome
-    → ((n : ℕ) → outcome ≡ done n → Settles later total next) → Settles (movedAll f cs later) total (thenMoved f outcome next)
-unfolding thenMoved
-settle-moved f cs later count total (done n) next s rest = settle-none f cs (s .succeeds n .0 refl .0) (rest n refl)
-settle-moved f cs later count total (refused number p) next s rest = record {
+-- the causes of an outcome, moved, and then those of what follows it settle both in turn
+pub settle-andThen : (f : ℕ → ℕ) (cs later : List Cause) (count total : ℕ) (outcome next : Outcome) → Settles cs count outcome
+    → ((n : ℕ) → outcome ≡ done n → Settles later total next) → Settles (movedAll f cs later) total (andThen f outcome next)
+unfolding andThen
+settle-andThen f cs later count total (done n) next s rest = settle-none f cs (s .succeeds n .0 refl .0) (rest n refl)
+settle-andThen f cs later count total (refused number p) next s rest = record {
   refuses = λ k q. (there k q, λ h. back k q (moved-first f cs later k q h));
   succeeds = λ n. (λ e. absurd (done-not-refused e refl), λ h. absurd (some-cause (movedAll f cs later) number (f p) first (h .0)));
 }

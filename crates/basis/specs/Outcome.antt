@@ -45,6 +45,11 @@ unfoldable pub refusedIf : Bool → ℕ → ℕ → Outcome → Outcome
 refusedIf true number position next = refused number position
 refusedIf false number position next = next
 
+-- what follows if the outcome is done; if it is refused, the same refusal, at the position that `place` gives for its own
+unfoldable pub andThen : (place : ℕ → ℕ) → Outcome → Outcome → Outcome
+andThen place (done count) next = next
+andThen place (refused number position) next = refused number (place position)
+
 -- the buffer afterwards: the values, and from the count on what it held; after a refusal all that it held
 unfoldable pub bufferAfter : Outcome → List ℕ → List ℕ → List ℕ
 bufferAfter (done count) values buffer = values ++ drop count buffer

@@ -19,13 +19,13 @@ use Rattle.utf16.specs.Answer.{pointsOutcome}
 use Rattle.utf16.specs.declared.PointCount.{PointCount}
 use Rattle.utf16.specs.declared.PointsAnswer.{PointsAnswer}
 use Rattle.utf16.specs.declared.PointsAnswer.the-variants as points
-use Rattle.scheme.specs.Naming.{kindNames}
+use Rattle.scheme.specs.Naming.{kindNames, isKnown, schemeNamed}
 use Rattle.scheme.specs.Coding.{codecOf, decodeOutcome, textOf}
 use Rattle.scheme.specs.declared.Scheme.{Scheme}
 use Rattle.scheme.specs.declared.Named.the-variants.{Known, Unknown}
 use Rattle.scheme.proofs.Coding.{faithful, decoded-readable}
-use Rattle.nametable.specs.Format.{entryLength, labelCapacity, labelStart, numberAt, kindOf, readerOf, lengthOf, labelIn, isFilled, schemeNamed, schemeIn}
-use Rattle.nametable.specs.Answer.{isKnown, labelJudged, entryJudged}
+use Rattle.nametable.specs.Format.{entryLength, labelCapacity, labelStart, numberAt, kindOf, readerOf, lengthOf, labelIn, isFilled, schemeIn}
+use Rattle.nametable.specs.Answer.{labelJudged, entryJudged}
 use Rattle.nametable.specs.Stepping.{judgedOutcome, Good}
 use Rattle.nametable.specs.declared.entries.Judged.the-variants.{Reader, Bad}
 

@@ -14,12 +14,12 @@ use Rattle.utf16.specs.Answer.{pointsOutcome}
 use Rattle.utf16.specs.declared.PointCount.{PointCount}
 use Rattle.utf16.specs.declared.PointsAnswer.{PointsAnswer}
 use Rattle.utf16.specs.declared.PointsAnswer.the-variants.{Points, Error}
-use Rattle.scheme.specs.Naming.{kindNames}
+use Rattle.scheme.specs.Naming.{kindNames, schemeNamed}
 use Rattle.scheme.specs.Coding.{decodeOutcome, textOf}
 use Rattle.scheme.specs.declared.Scheme.{Scheme}
 use Rattle.scheme.specs.declared.Named.{Named}
 use Rattle.scheme.specs.declared.Named.the-variants.{Known}
-use Rattle.nametable.specs.Format.{numberAt, entryAt, kindOf, readerOf, labelIn, schemeNamed, schemeIn}
+use Rattle.nametable.specs.Format.{numberAt, entryAt, kindOf, readerOf, labelIn, schemeIn}
 use Rattle.nametable.specs.Answer.{tableOutcome, readOutcome, EntryOutcome, notFound, entryOutcome, entryText, entryIn, findOutcome, counted}
 use Rattle.nametable.specs.declared.TableAnswer.{TableAnswer}
 use Rattle.nametable.specs.declared.TableAnswer.the-variants as table

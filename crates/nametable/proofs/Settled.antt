@@ -10,17 +10,17 @@ use borrow.Author.Tests.{eqb-true, eqb-false, ne-eqb, lt-ltb, le-ltb, not-true}
 use native.Mathlib.Omega.{arith}
 use Rattle.basis.specs.Tests.{every, within, firstBelow}
 use Rattle.basis.specs.Rows.{at}
-use Rattle.basis.specs.Outcome.{Outcome, done, refused, refusedIf}
+use Rattle.basis.specs.Outcome.{Outcome, done, refused, refusedIf, andThen}
 use Rattle.basis.specs.Causes.{Settles}
 use Rattle.basis.proofs.Tests.{cases, by-lt, true-not-false, ltb-iff, eqb-iff, fails-iff, within-true, within-below, within-above, none-iff, not-each, first-le, first-here}
-use Rattle.basis.proofs.Causes.{thenMoved, settle-done, settle-whole, settle-moved}
+use Rattle.basis.proofs.Causes.{settle-done, settle-whole, settle-andThen}
 use Rattle.basis.proofs.Codec.{decode-settled}
-use Rattle.scheme.specs.Naming.{rowOf, schemes, firstWith, kindNames}
+use Rattle.scheme.specs.Naming.{rowOf, schemes, firstWith, kindNames, isKnown}
 use Rattle.scheme.specs.Naming as naming
 use Rattle.scheme.specs.Coding.{codecOf}
 use Rattle.scheme.proofs.Coding.{faithful}
 use Rattle.nametable.specs.Format.{headerKind, headerLength, mostEntries, entryLength, labelCapacity, labelStart, countOf, tableLength, kindOf, readerOf, lengthOf, labelIn, isFilled, schemeIn}
-use Rattle.nametable.specs.Answer.{isKnown, labelJudged, entryJudged, thenEntries, entriesJudged, readOutcome, entryText, entryIn, findOutcome, counted}
+use Rattle.nametable.specs.Answer.{labelJudged, entryJudged, thenEntries, entriesJudged, readOutcome, entryText, entryIn, findOutcome, counted}
 use Rattle.nametable.specs.Causes.{UnknownKind, NotFilled, entryCauses, entriesCauses, tableCauses, findCauses}
 use Rattle.nametable.proofs.TableLaws.{read-table}
 
@@ -54,13 +54,13 @@ unfolding isFilled
 unfilled-iff e = some-not (labelCapacity - lengthOf e) (λ i. at e (labelStart + lengthOf e + i))
 
 -- a label's verdict, and that on an entry, tell a refusal at another position
-label-moved : (outcome : Outcome) (reader : ℕ) → labelJudged outcome reader ≡ thenMoved (λ _. 0) outcome (done reader)
-unfolding labelJudged thenMoved
+label-moved : (outcome : Outcome) (reader : ℕ) → labelJudged outcome reader ≡ andThen (λ _. 0) outcome (done reader)
+unfolding labelJudged andThen
 label-moved (done n) reader = refl
 label-moved (refused number position) reader = refl
 
-entry-moved : (index : ℕ) (outcome next : Outcome) → thenEntries index outcome next ≡ thenMoved (λ _. index) outcome next
-unfolding thenEntries thenMoved
+entry-moved : (index : ℕ) (outcome next : Outcome) → thenEntries index outcome next ≡ andThen (λ _. index) outcome next
+unfolding thenEntries andThen
 entry-moved index (done n) next = refl
 entry-moved index (refused number position) next = refl
 
@@ -72,14 +72,14 @@ entry-settled least e =
     (λ _. settle-whole _ 14 (ltb-iff (readerOf e) least)
     (λ _. settle-whole _ 14 (outside-iff 1 labelCapacity (lengthOf e))
     (λ _. settle-whole _ 14 (unfilled-iff e)
-    (λ _. rw label-moved (settle-moved (λ _. 0) _ [] _ (readerOf e) _ (done (readerOf e)) (decode-settled (codecOf s) (faithful s) labelCapacity (labelIn e) (omega arith)) (λ _ _. settle-done (readerOf e)))))))
+    (λ _. rw label-moved (settle-andThen (λ _. 0) _ [] _ (readerOf e) _ (done (readerOf e)) (decode-settled (codecOf s) (faithful s) labelCapacity (labelIn e) (omega arith)) (λ _ _. settle-done (readerOf e)))))))
 
 entries-settled : (index least left : ℕ) (bytes : List ℕ) (total : ℕ) → Settles (entriesCauses index least left bytes) total (entriesJudged index least left bytes total)
 unfolding entriesCauses entriesJudged
 entries-settled index least zero bytes total = settle-done total
 entries-settled index least (suc left) bytes total =
     rw entry-moved
-    (settle-moved (λ _. index) (entryCauses least (take entryLength bytes)) _ _ total _ _ (entry-settled least (take entryLength bytes))
+    (settle-andThen (λ _. index) (entryCauses least (take entryLength bytes)) _ _ total _ _ (entry-settled least (take entryLength bytes))
     (λ _ _. entries-settled (suc index) (suc (readerOf bytes)) left (drop entryLength bytes) total))
 
 pub read-settled : (t : List ℕ) → Settles (tableCauses t) (countOf t) (readOutcome t)
@@ -98,14 +98,14 @@ module _ (t : List ℕ) (index : ℕ) where
   abbrev inTable : Outcome
   inTable = refusedIf (not (ltb index (countOf t))) 14 0 (done (length (entryText t index)))
 
-  entry-after : (verdict : Outcome) → readOutcome t ≡ verdict → counted (entryIn t index verdict) ≡ thenMoved (λ p. p) verdict inTable
-  unfolding entryIn counted thenMoved refusedIf
+  entry-after : (verdict : Outcome) → readOutcome t ≡ verdict → counted (entryIn t index verdict) ≡ andThen (λ p. p) verdict inTable
+  unfolding entryIn counted andThen refusedIf
   entry-after (refused number position) e = refl
   entry-after (done n) e =
       let same : n ≡ countOf t = read-table t n e .counted in
       rw same (cases (ltb index (countOf t)) (λ h. rw h) (λ h. rw h))
 
-  find-is : (capacity : ℕ) → counted (findOutcome t index capacity) ≡ refusedIf (ltb capacity 63) 1 0 (thenMoved (λ p. p) (readOutcome t) inTable)
+  find-is : (capacity : ℕ) → counted (findOutcome t index capacity) ≡ refusedIf (ltb capacity 63) 1 0 (andThen (λ p. p) (readOutcome t) inTable)
   unfolding findOutcome counted refusedIf
   find-is capacity = cases (ltb capacity 63) (λ h. rw h) (λ h. rw h (entry-after (readOutcome t) refl))
 
@@ -116,5 +116,5 @@ module _ (t : List ℕ) (index : ℕ) where
   find-settled capacity =
       rw (find-is capacity)
       (settle-whole _ 1 (ltb-iff capacity 63)
-      (λ _. settle-moved (λ p. p) (tableCauses t) _ (countOf t) _ (readOutcome t) _ (read-settled t)
+      (λ _. settle-andThen (λ p. p) (tableCauses t) _ (countOf t) _ (readOutcome t) _ (read-settled t)
       (λ _ _. settle-whole _ 14 beyond-iff (λ _. settle-done (length (entryText t index))))))

@@ -7,11 +7,9 @@ use lib.ListN.{length, take, drop}
 use Rattle.basis.specs.Tests.{within}
 use Rattle.basis.specs.Rows.{at}
 use Rattle.basis.specs.Outcome.{Outcome, done, refused, refusedIf, numberOf}
-use Rattle.scheme.specs.Naming.{kindNames}
+use Rattle.scheme.specs.Naming.{kindNames, isKnown}
 use Rattle.scheme.specs.Naming as naming
 use Rattle.scheme.specs.Coding.{decodeOutcome, textOf}
-use Rattle.scheme.specs.declared.Named.{Named}
-use Rattle.scheme.specs.declared.Named.the-variants.{Known, Unknown}
 use Rattle.nametable.specs.Format.{headerKind, headerLength, mostEntries, entryLength, labelCapacity, countOf, tableLength, entryAt, kindOf, readerOf, lengthOf, labelIn, isFilled, schemeIn}
 use Rattle.nametable.specs.declared.TableAnswer.{TableAnswer}
 use Rattle.nametable.specs.declared.TableAnswer.the-variants as table
@@ -22,11 +20,6 @@ use Rattle.nametable.specs.declared.EntryAnswer.the-variants as entry
 unfoldable pub tableOutcome : TableAnswer → Outcome
 tableOutcome (table.Entries count) = done count
 tableOutcome (table.Error code position) = refused (numberOf code) position
-
--- the kind is known
-unfoldable pub isKnown : Named → Bool
-isKnown (Known scheme) = true
-isKnown Unknown = false
 
 -- the label's own refusal, by its number, or the reader number
 unfoldable pub labelJudged : Outcome → ℕ → Outcome

@@ -6,11 +6,8 @@ use lib.Dec.{eqb}
 use lib.ListN.{take, drop}
 use Rattle.basis.specs.Tests.{every}
 use Rattle.basis.specs.Rows.{at}
-use Rattle.scheme.specs.Naming.{kindNames}
+use Rattle.scheme.specs.Naming.{kindNames, schemeNamed}
 use Rattle.scheme.specs.declared.Scheme.{Scheme}
-use Rattle.scheme.specs.declared.Scheme.the-variants.{Lace}
-use Rattle.scheme.specs.declared.Named.{Named}
-use Rattle.scheme.specs.declared.Named.the-variants.{Known, Unknown}
 
 -- the header: kind 48 hex and a body of 2 bytes, the number of entries, 1 to 500
 abbrev pub headerKind : ℕ
@@ -65,10 +62,6 @@ labelIn entry = take (lengthOf entry) (drop labelStart entry)
 unfoldable pub isFilled : List ℕ → Bool
 isFilled entry = every (labelCapacity - lengthOf entry) (λ i. eqb (at entry (labelStart + lengthOf entry + i)) 0)
 
--- the scheme that a kind names; where it names none, which no whole table has, LACE stands in
-unfoldable pub schemeNamed : Named → Scheme
-schemeNamed (Known scheme) = scheme
-schemeNamed Unknown = Lace
-
+-- the scheme that the kind names
 unfoldable pub schemeIn : List ℕ → Scheme
 schemeIn entry = schemeNamed (kindNames (kindOf entry))

@@ -1,5 +1,6 @@
 -- The directory of schemes: the number, the kind of entry and the letter of each, and what they name.
 use Prim.Native.Nat.{ℕ}
+use mathlib.Core.Bool.{Bool, true, false}
 use mathlib.Core.List.{List, [], _∷_}
 use lib.Dec.{eqb}
 use Rattle.basis.specs.Tests.{pick}
@@ -55,3 +56,13 @@ numberNames number = pick (eqb number 0) (ownNumberNames defaultNumber) (ownNumb
 -- the scheme that a kind of entry names
 unfoldable pub kindNames : ℕ → Named
 kindNames kind = firstWith kindOf kind schemes
+
+-- a scheme is named
+unfoldable pub isKnown : Named → Bool
+isKnown (Known scheme) = true
+isKnown Unknown = false
+
+-- the scheme that is named; where none is, which is always refused before, LACE stands in
+unfoldable pub schemeNamed : Named → Scheme
+schemeNamed (Known scheme) = scheme
+schemeNamed Unknown = Lace
