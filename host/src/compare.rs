@@ -231,7 +231,7 @@ macro_rules! comparison {
 
 /// The functions that are compared, each with the calls that are made of it and
 /// with all the codes that it can answer with.
-pub const COMPARISONS: [(&str, Comparison); 10] = [
+pub const COMPARISONS: [(&str, Comparison); 11] = [
     comparison!(to_units, to_units, [1, 4]),
     comparison!(to_points, to_points, [1, 10]),
     comparison!(altdude_encode, encode, [1, 2, 3, 4, 5]),
@@ -240,6 +240,7 @@ pub const COMPARISONS: [(&str, Comparison); 10] = [
     comparison!(lace_decode, lace_decode, [1, 2, 3, 6, 7, 8, 9]),
     comparison!(table_read, table_read, [5, 6, 7, 8, 9, 13, 14]),
     comparison!(table_entry, table_entry, [1, 5, 6, 7, 8, 9, 13, 14]),
+    comparison!(table_judged_entry, table_entry, [1, 5, 6, 7, 8, 9, 13, 14]),
     comparison!(write, write, [1, 2, 3, 5, 6, 10, 11, 12]),
     comparison!(read, read, [1, 2, 3, 5, 6, 7, 8, 9, 11]),
 ];

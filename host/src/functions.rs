@@ -29,6 +29,7 @@ pub struct Implementation {
     pub lace_decode: Function<u8, u32>,
     pub table_read: Function<u8, u8>,
     pub table_entry: Function<u8, u32>,
+    pub table_judged_entry: Function<u8, u32>,
     pub write: Function<u8, u8>,
     pub read: Function<u8, u8>,
 }
@@ -69,6 +70,9 @@ pub const INDEPENDENT: Implementation = Implementation {
     table_read: |table, _, _, answer| store(numbers(nametable::read(table)), answer),
     table_entry: |table, index, text, answer| {
         store(entry_numbers(nametable::entry(table, index, text)), answer);
+    },
+    table_judged_entry: |table, index, text, answer| {
+        store(entry_numbers(nametable::judged_entry(table, index, text)), answer);
     },
     write: |text, scheme, label, answer| {
         store(interface_numbers(c_interface::write(scheme as u32, text, label)), answer);

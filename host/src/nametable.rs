@@ -44,14 +44,46 @@ pub fn entry(table: &[u8], index: usize, out: &mut [u32]) -> Result<Entry, Error
     if index >= entries {
         return error(ErrorCode::Malformed);
     }
+    read_entry(entry_bytes(table, index), index, out)
+}
+
+/// Reads the entry at an index of a table that was judged before. The table is
+/// not judged again: of its header only the count is looked at, and of its
+/// entries only this one, whose reader number may be any.
+pub fn judged_entry(table: &[u8], index: usize, out: &mut [u32]) -> Result<Entry, Error> {
+    if out.len() < LABEL_MAX {
+        return error(ErrorCode::Capacity);
+    }
+    if table.len() < HEADER_LENGTH {
+        return error(ErrorCode::Truncated);
+    }
+    if index >= count_of(table) {
+        return error(ErrorCode::Malformed);
+    }
+    if table.len() < HEADER_LENGTH + ENTRY_LENGTH * (index + 1) {
+        return error(ErrorCode::Truncated);
+    }
     let entry = entry_bytes(table, index);
-    // The table is whole, so the kind is known and the label is admitted.
+    match check_entry(entry, None) {
+        Ok(_) => read_entry(entry, index, out),
+        Err(code) => error_at(code, index),
+    }
+}
+
+/// Reads an entry that was checked, so that its kind is known and its label is
+/// admitted.
+fn read_entry(entry: &[u8], index: usize, out: &mut [u32]) -> Result<Entry, Error> {
     let scheme = match Scheme::of_kind(entry[0]) {
         Some(scheme) => scheme,
         None => return error_at(ErrorCode::Malformed, index),
     };
     let count = scheme.decode(label_of(entry), out)?;
     Ok(Entry { reader: reader_of(entry), scheme, count })
+}
+
+/// The number of entries that a whole header announces.
+fn count_of(table: &[u8]) -> usize {
+    usize::from(u16::from_be_bytes([table[1], table[2]]))
 }
 
 /// The number of entries, once the header and the length are in order.
@@ -65,7 +97,7 @@ fn entries_by_header(table: &[u8]) -> Result<usize, Error> {
     if table.len() < HEADER_LENGTH {
         return error(ErrorCode::Truncated);
     }
-    let entries = usize::from(u16::from_be_bytes([table[1], table[2]]));
+    let entries = count_of(table);
     if entries == 0 || entries > ENTRIES_MAX {
         return error(ErrorCode::Malformed);
     }

@@ -65,6 +65,15 @@ extern "C" {
         answer: *mut u64,
         answer_len: usize,
     );
+    fn test_table_judged_entry(
+        table: *const u8,
+        table_len: usize,
+        index: usize,
+        text: *mut u32,
+        text_len: usize,
+        answer: *mut u64,
+        answer_len: usize,
+    );
 }
 
 // libfirmware.a, declared in include/distelhut.h
@@ -127,6 +136,9 @@ pub const PROVED: Implementation = Implementation {
     table_read: |table, _, _, answer| call!(test_table_read, table, [], [answer]),
     table_entry: |table, index, text, answer| {
         call!(test_table_entry, table, [index], [text, answer])
+    },
+    table_judged_entry: |table, index, text, answer| {
+        call!(test_table_judged_entry, table, [index], [text, answer])
     },
     write: |text, scheme, label, answer| {
         store(interface_numbers(write(scheme as u32, text, label)), answer);

@@ -285,6 +285,34 @@ fn errors_of_table_entry() {
 }
 
 #[test]
+fn errors_of_table_judged_entry() {
+    found(
+        "table_judged_entry",
+        &[
+            // the table is judged again
+            Implementation { table_judged_entry: INDEPENDENT.table_entry, ..INDEPENDENT },
+            // the entry's own refusal is reported at 0
+            Implementation {
+                table_judged_entry: |table, index, text, answer| {
+                    (INDEPENDENT.table_judged_entry)(table, index, text, answer);
+                    if answer.len() >= 5 {
+                        answer[1] = 0;
+                    }
+                },
+                ..INDEPENDENT
+            },
+            // where an entry ends is computed in 32 bits
+            Implementation {
+                table_judged_entry: |table, index, text, answer| {
+                    (INDEPENDENT.table_judged_entry)(table, index % (1 << 32), text, answer);
+                },
+                ..INDEPENDENT
+            },
+        ],
+    );
+}
+
+#[test]
 fn errors_of_write() {
     found(
         "write",

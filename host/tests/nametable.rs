@@ -18,6 +18,18 @@ fn entry(one: &Implementation, table: &[u8], index: usize) -> Result<(u64, u64, 
     Ok((reader, scheme, called(one.table_entry, table, index, 63)?))
 }
 
+/// The answer on an entry of a table that was judged before: reader number,
+/// scheme number and points.
+fn judged_entry(
+    one: &Implementation,
+    table: &[u8],
+    index: usize,
+) -> Result<(u64, u64, Vec<u32>), Error> {
+    let function = one.table_judged_entry;
+    let [_, _, _, reader, scheme] = numbers(function, table, index, &mut [0; 63])?;
+    Ok((reader, scheme, called(function, table, index, 63)?))
+}
+
 fn changed(changes: &[(usize, u8)]) -> Vec<u8> {
     let mut table = sample_table();
     for &(position, byte) in changes {
@@ -182,5 +194,37 @@ fn the_longest_table() {
         table.push(0);
         assert_eq!(verdict(&one, &table), Err((14, 0)));
         assert_eq!(verdict(&one, &table_of(&rows)), Err((14, 0)));
+    }
+}
+
+#[test]
+fn an_entry_of_a_judged_table() {
+    let table = sample_table();
+    for one in implementations() {
+        for index in 0..4 {
+            assert_eq!(judged_entry(&one, &table, index), entry(&one, &table, index));
+        }
+        assert_eq!(called(one.table_judged_entry, &[], 0, 62), Err((1, 0)));
+        assert_eq!(judged_entry(&one, &table, usize::MAX), Err((14, 0)));
+        // Of the header only the count is looked at, and it is not judged.
+        assert_eq!(judged_entry(&one, &changed(&[(0, 0)]), 1), Ok((300, 2, vec![0xFC])));
+        assert_eq!(judged_entry(&one, &changed(&[(2, 1)]), 1), Err((14, 0)));
+        assert_eq!(judged_entry(&one, &changed(&[(1, 255)]), 1), Ok((300, 2, vec![0xFC])));
+        assert_eq!(judged_entry(&one, &changed(&[(1, 255)]), 2), Err((13, 0)));
+        // A table that ends behind the entry is whole enough for it.
+        for length in 0..table.len() {
+            let cut = &table[..length];
+            let first = if length < 70 { Err((13, 0)) } else { Ok((7, 1, vec![0xFC])) };
+            assert_eq!(judged_entry(&one, cut, 0), first);
+            assert_eq!(judged_entry(&one, cut, 1), Err((13, 0)));
+            assert_eq!(judged_entry(&one, cut, 2), Err((if length < 3 { 13 } else { 14 }, 0)));
+        }
+        // The entry's own refusal is reported at its index, and no other entry's.
+        assert_eq!(judged_entry(&one, &changed(&[(70, 0)]), 1), Err((14, 1)));
+        assert_eq!(judged_entry(&one, &changed(&[(70, 0)]), 0), Ok((7, 1, vec![0xFC])));
+        assert_eq!(judged_entry(&one, &changed(&[(7, b's')]), 0), Err((9, 0)));
+        assert_eq!(judged_entry(&one, &changed(&[(7, b's')]), 1), Ok((300, 2, vec![0xFC])));
+        // A reader number below that of the entry before is not looked at.
+        assert_eq!(judged_entry(&one, &changed(&[(71, 0), (72, 0)]), 1), Ok((0, 2, vec![0xFC])));
     }
 }

@@ -283,7 +283,12 @@ fn an_entry_is_answered_only_from_a_readable_table() {
         let answer = nametable::entry(&bytes, index, &mut buffer);
         match nametable::read(&bytes) {
             Err(error) => assert_eq!(answer, Err(error)),
-            Ok(entries) => assert_eq!(answer.is_ok(), index < entries),
+            Ok(entries) => {
+                assert_eq!(answer.is_ok(), index < entries);
+                let mut other = [0x5A; 63];
+                assert_eq!(nametable::judged_entry(&bytes, index, &mut other), answer);
+                assert_eq!(other, buffer);
+            }
         }
         let count = answer.map_or(0, |entry| entry.count);
         assert!(buffer[count..].iter().all(|&point| point == 0x5A));

@@ -20,7 +20,7 @@ use Rattle.base32.specs.Alphabet.{altdude, valueOf}
 use Rattle.base32.proofs.Inverse.{value-le, altdude-alphabet}
 use Rattle.altdude.specs.Symbols.{symbolOf, isCharacter}
 use Rattle.altdude.specs.Decoding.{follows, nextRemembered, nextPending, adds, isReadable, textFrom, textOf}
-use Rattle.altdude.specs.Stepping.{Goes, StepMeans, addsAfter}
+use Rattle.altdude.specs.Internal.{Goes, StepMeans, addsAfter}
 use Rattle.altdude.specs.declared.decoding.Step.{Step}
 use Rattle.altdude.specs.declared.decoding.Step.the-variants.{Next, Stop}
 use Rattle.altdude.proofs.Xor.{xor-large}
@@ -172,14 +172,14 @@ symbols-here l i h = rw (drop-cons l i 0, add-one)
 symbols-end : (l : List ℕ) (i : ℕ) → length l ≤ i → map symbolOf (drop i l) ≡ []
 symbols-end l i h = rw drop-of-length-le
 
--- where a loop stands: what is left can be read exactly when the whole can, and the state is within 21 bits
+-- what a loop keeps: what is left can be read exactly when the whole can, and the state is within 21 bits
 pub record Reading (l : List ℕ) (all : Bool) (m v i : ℕ) : Type 0 where
   pub left : all ≡ isReadable m v (map symbolOf (drop i l))
   pub rememberedSmall : m < 2 ^ 21
   pub pendingSmall : v < 2 ^ 21
   pub inside : i ≤ length l
 
--- where the storing loop stands besides: what is left of the text is still to be stored, from an index that is not ahead
+-- what the storing loop keeps besides: what is left of the text is still to be stored, from an index that is not ahead
 pub record Putting (l old text : List ℕ) (m v at i : ℕ) : Type 0 where
   pub storing : Storing old (textOf l) text at (textFrom m v (map symbolOf (drop i l)))
   pub behind : at ≤ i

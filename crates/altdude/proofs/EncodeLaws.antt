@@ -17,7 +17,7 @@ use Rattle.altdude.specs.Symbols.{byteOf}
 use Rattle.altdude.specs.Encoding.{leadingDigits, groupOf, itemOf, rememberedAfter, symbolsFrom, labelOf}
 use Rattle.altdude.proofs.Digits.{digits-step, digits-none}
 
--- what stands before the rest does not depend on it
+-- what comes before the rest does not depend on it
 digits-append : (f x : ℕ) (rest : List ℕ) → leadingDigits f x rest ≡ leadingDigits f x [] ++ rest
 unfolding leadingDigits
 digits-append zero x rest = refl
@@ -102,7 +102,7 @@ item-within t m i inside all n inv = omega (arith, length-turn t m _ i inside re
 
 pub item-fits : (t : List ℕ) (m i : ℕ) → i < length t → (old label : List ℕ) (k : ℕ) → Storing old (labelOf t) label k (map byteOf (symbolsFrom m (drop i t)))
     → k + length (itemOf m (at t i) []) ≤ length (labelOf t)
-item-fits t m i inside old label k s = item-within t m i inside _ k (sym (s .count) ∙ rw length-map)
+item-fits t m i inside old label k s = item-within t m i inside _ k (omega (arith, s .count, length-map (symbolsFrom m (drop i t)) byteOf))
 
 -- at the end nothing is left
 module _ (t : List ℕ) (m i : ℕ) (past : length t ≤ i) where

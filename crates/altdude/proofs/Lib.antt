@@ -2,6 +2,5 @@
 pub mod Xor
 pub mod Digits
 pub mod Steps
-pub mod EdgeTests
 pub mod EncodeLaws
 pub mod DecodeLaws

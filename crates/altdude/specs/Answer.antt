@@ -5,8 +5,9 @@ use mathlib.Core.List.{List, map}
 use lib.Dec.{ltb}
 use lib.ListN.{length}
 use Rattle.basis.specs.Outcome.{Outcome, done, refusedIf}
+use Rattle.ascii.specs.Ldh.{hasEdgeHyphen}
 use Rattle.labels.specs.Tests.{textTests, labelTests}
-use Rattle.altdude.specs.Symbols.{symbolOf, firstOutside, hasEdgeHyphen}
+use Rattle.altdude.specs.Symbols.{symbolOf, firstOutside}
 use Rattle.altdude.specs.Encoding.{labelOf}
 use Rattle.altdude.specs.Decoding.{isReadable, textOf}
 

@@ -9,7 +9,7 @@ use Rattle.basis.specs.Tests.{pick, both}
 use Rattle.utf16.specs.Points.{isPoint}
 use Rattle.altdude.specs.Symbols.{symbolOf}
 
--- a symbol may follow: the last of a group gives a point that is not 45; a hyphen stands outside a group; a value 16 to 31
+-- a symbol may follow: the last of a group gives a point that is not 45; a hyphen is outside a group; a value 16 to 31
 -- does not begin a group with the digit 0
 unfoldable pub follows : ℕ → ℕ → ℕ → Bool
 follows remembered pending s =

@@ -1,6 +1,6 @@
--- AltDUDE: symbols, the encoding, decoding, and what both entries answer.
+-- AltDUDE: symbols, the encoding, decoding, and what both functions answer.
 pub mod Symbols
 pub mod Encoding
 pub mod Decoding
 pub mod Answer
-pub mod Stepping
+pub mod Internal

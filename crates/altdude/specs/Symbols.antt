@@ -1,11 +1,9 @@
 -- The symbols that a label is made of: 45 for the hyphen, a value 0 to 31 for a character of either case.
-use Prim.Native.Nat.{ℕ, _-_}
-use mathlib.Core.Bool.{Bool, not, _||_}
+use Prim.Native.Nat.{ℕ}
+use mathlib.Core.Bool.{Bool, not}
 use mathlib.Core.List.{List}
 use lib.Dec.{eqb}
-use lib.ListN.{length}
 use Rattle.basis.specs.Tests.{pick, firstIn}
-use Rattle.basis.specs.Rows.{at}
 use Rattle.base32.specs.Alphabet.{altdude, characterOf, valueOf}
 
 -- the symbol of a byte, 32 where it is neither a hyphen nor one of the 32 characters
@@ -19,10 +17,6 @@ byteOf symbol = pick (eqb symbol 45) 45 (characterOf altdude symbol)
 -- a hyphen or one of the 32
 unfoldable pub isCharacter : ℕ → Bool
 isCharacter byte = not (eqb (symbolOf byte) 32)
-
--- the first or the last element is a hyphen
-unfoldable pub hasEdgeHyphen : List ℕ → Bool
-hasEdgeHyphen xs = eqb (at xs 0) 45 || eqb (at xs (length xs - 1)) 45
 
 -- the index of the first byte that is neither a hyphen nor one of the 32, or the length
 unfoldable pub firstOutside : List ℕ → ℕ

@@ -9,7 +9,7 @@ ghost use lib.ListN.{length, drop};
 ghost use lib.Seq.{sets};
 ghost use Rattle.altdude.specs.Symbols.{symbolOf};
 ghost use Rattle.altdude.specs.Decoding.{isReadable, textOf};
-ghost use Rattle.altdude.specs.Stepping.{StepMeans, addsAfter};
+ghost use Rattle.altdude.specs.Internal.{StepMeans, addsAfter};
 
 // What one symbol does: the remembered number and the open group's value after it, or that no row goes on so.
 pub(crate) enum Step {

@@ -23,7 +23,7 @@ pub fn encode(text: &[u32], label: &mut [u8]) -> BytesAnswer
     ensures { λ _. ⌜ now (label .exit) ≡ bufferAfter (encodeOutcome (length (now (label .entry))) (now (text .entry))) (labelOf (now (text .entry))) (now (label .entry)) ⌝ }
 {
     let check = labels::check_text(text, label.len());
-    let edge = symbols::text_has_edge_hyphen(text);
+    let edge = ascii::text_has_edge_hyphen(text);
     match check {
         Check::Error { code, position } => {
             return basis::bytes_error(code, position);
@@ -54,7 +54,7 @@ pub fn decode(label: &[u8], text: &mut [u32]) -> PointsAnswer
         Check::Passed => {}
     }
     let bad = symbols::first_outside(label);
-    let edge_hyphen = symbols::label_has_edge_hyphen(label);
+    let edge_hyphen = ascii::label_has_edge_hyphen(label);
     let readable = decoding::is_readable(label);
     if bad < label.len() {
         return utf16::points_error(ErrorCode::OutsideAlphabet, bad);

@@ -1,9 +1,7 @@
 // Symbols and bytes, and the scans over them.
 use base32::alphabet;
 ghost use mathlib.Core.Path.{_≡_};
-ghost use Prim.Native.Nat.{_<_};
-ghost use lib.ListN.{length};
-ghost use Rattle.altdude.specs.Symbols.{symbolOf, byteOf, firstOutside, hasEdgeHyphen};
+ghost use Rattle.altdude.specs.Symbols.{symbolOf, byteOf, firstOutside};
 
 // The symbol of a byte: 45 for a hyphen, else its value, 32 where it has none.
 pub(crate) fn symbol_of(byte: u8) -> u8
@@ -37,28 +35,4 @@ pub(crate) fn first_outside(label: &[u8]) -> usize
         i += 1;
     }
     i
-}
-
-// Whether the first or the last point is a hyphen; an empty text has none.
-pub(crate) fn text_has_edge_hyphen(text: &[u32]) -> bool
-    ensures { λ r. ⌜ r ≡ hasEdgeHyphen (now (text .entry)) ⌝ }
-{
-    if text.len() == 0 {
-        return false;
-    }
-    if text[0] == 45 {
-        return true;
-    }
-    text[text.len() - 1] == 45
-}
-
-// Whether the first or the last byte is a hyphen.
-pub(crate) fn label_has_edge_hyphen(label: &[u8]) -> bool
-    requires { ⌜ 0 < length (now label) ⌝ }
-    ensures { λ r. ⌜ r ≡ hasEdgeHyphen (now (label .entry)) ⌝ }
-{
-    if label[0] == 45 {
-        return true;
-    }
-    label[label.len() - 1] == 45
 }

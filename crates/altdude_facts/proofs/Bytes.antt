@@ -9,10 +9,11 @@ use lib.ListN.{length}
 use borrow.Author.Tests.{eqb-true, eqb-false, ne-eqb, not-true}
 use native.Mathlib.Omega.{arith}
 use Rattle.basis.specs.Rows.{at}
-use Rattle.basis.specs.Case.{small}
-use Rattle.basis.proofs.Tests.{cases, by-lt}
+use Rattle.basis.proofs.Tests.{cases}
 use Rattle.basis.proofs.Lists.{map-after, map-self}
-use Rattle.basis.proofs.Case.{small-inside, small-below, small-above, small-small}
+use Rattle.ascii.specs.Case.{small}
+use Rattle.ascii.proofs.Case.{small-below, small-small}
+use Rattle.ascii.proofs.EdgeHyphen.{KeepsHyphen, keeps-hyphen, small-keeps-hyphen}
 use Rattle.base32.specs.Alphabet.{altdude, characterOf, valueOf}
 use Rattle.base32.proofs.Inverse.{value-same, value-le, value-character, character-value, character-no-hyphen, altdude-alphabet}
 use Rattle.altdude.specs.Symbols.{symbolOf, byteOf, isCharacter}
@@ -42,38 +43,20 @@ other-byte : (s : ℕ) → eqb s 45 ≡ false → byteOf s ≡ characterOf altdu
 unfolding byteOf
 other-byte s e = rw e
 
--- f makes a hyphen of a hyphen alone
-abbrev pub KeepsHyphen : (ℕ → ℕ) → Type 0
-KeepsHyphen f = (x : ℕ) → eqb (f x) 45 ≡ eqb x 45
-
-keeps : (f : ℕ → ℕ) → f 45 ≡ 45 → ((x : ℕ) → eqb x 45 ≡ false → f x ≡ 45 → ⊥) → KeepsHyphen f
-keeps f same other x =
-    cases (eqb x 45)
-    (λ e. rw (eqb-true x 45 e, same))
-    (λ e. rw e (ne-eqb (f x) 45 (other x e)))
-
 pub keeps-symbol : KeepsHyphen symbolOf
 keeps-symbol =
-    keeps symbolOf hyphen-symbol
+    keeps-hyphen symbolOf hyphen-symbol
     (λ b e q. let v = value-le altdude altdude-alphabet b in omega (arith, other-symbol b e))
 
 pub keeps-byte : KeepsHyphen byteOf
 keeps-byte =
-    keeps byteOf hyphen-byte
+    keeps-hyphen byteOf hyphen-byte
     (λ s e q. character-no-hyphen altdude altdude-alphabet s (sym (other-byte s e) ∙ q))
-
-pub keeps-small : KeepsHyphen small
-keeps-small =
-    keeps small (small-below 45 (omega arith))
-    (λ b e q.
-    by-lt b 65
-    (λ h. eqb-false b 45 e (sym (small-below b h) ∙ q))
-    (λ h. by-lt 90 b (λ g. omega (arith, small-above b g)) (λ g. omega (arith, small-inside b h g))))
 
 -- the symbol of a small form
 pub symbol-small : (b : ℕ) → symbolOf (small b) ≡ symbolOf b
 unfolding symbolOf
-symbol-small b = rw (keeps-small b, value-same altdude (small b) b (small-small b))
+symbol-small b = rw (small-keeps-hyphen b, value-same altdude (small b) b (small-small b))
 
 -- the byte of a byte's symbol is that byte made small
 pub byte-symbol : (b : ℕ) → isCharacter b ≡ true → byteOf (symbolOf b) ≡ small b

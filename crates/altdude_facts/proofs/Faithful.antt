@@ -8,17 +8,20 @@ use lib.ListN.{length, length-map}
 use borrow.Author.Tests.{not-false}
 use native.Mathlib.Omega.{arith}
 use Rattle.basis.specs.Rows.{at}
-use Rattle.basis.specs.Case.{small, SameButCase}
 use Rattle.basis.specs.Causes.{whole, Absent, NoCause}
 use Rattle.basis.specs.Codec.{Writable}
 use Rattle.basis.proofs.Tests.{by-lt, true-not-false, each-at, none-iff}
 use Rattle.basis.proofs.Lists.{at-map}
-use Rattle.basis.proofs.Case.{same-but-case, small-spelled}
 use Rattle.basis.proofs.Causes.{absent-whole, absent-first}
-use Rattle.basis.proofs.Codec.{Faithful, Ruled, read-alike}
+use Rattle.basis.proofs.Codec.{Faithful}
+use Rattle.ascii.specs.Case.{small, SameButCase}
+use Rattle.ascii.specs.Ldh.{hasEdgeHyphen}
+use Rattle.ascii.proofs.Case.{same-but-case, small-spelled}
+use Rattle.ascii.proofs.Codec.{Ruled, read-alike}
+use Rattle.ascii.proofs.EdgeHyphen.{edges-iff}
 use Rattle.utf16.specs.Points.{isText}
 use Rattle.labels.proofs.Causes.{some-iff, short-iff, TextAndLabel, writable-iff}
-use Rattle.altdude.specs.Symbols.{symbolOf, byteOf, isCharacter, hasEdgeHyphen, firstOutside}
+use Rattle.altdude.specs.Symbols.{symbolOf, byteOf, isCharacter, firstOutside}
 use Rattle.altdude.specs.Encoding.{symbolsFrom, labelOf}
 use Rattle.altdude.specs.Decoding.{isReadable, textFrom, textOf}
 use Rattle.altdude.proofs.Digits.{digits-none}
@@ -28,7 +31,7 @@ use Rattle.altdude_facts.specs.Causes.{EdgeHyphen, labelCauses}
 use Rattle.altdude_facts.specs.Codec.{codec}
 use Rattle.altdude_facts.proofs.Bytes.{symbol-character, symbols-small, bytes-symbols, symbols-bytes}
 use Rattle.altdude_facts.proofs.RoundTrip.{Readable, readable-is, readable-symbols, written-readable, written-text, read-symbols, read-text}
-use Rattle.altdude_facts.proofs.Edges.{edges-symbols, edges-written, edges-iff}
+use Rattle.altdude_facts.proofs.Edges.{edges-symbols, edges-written}
 use Rattle.altdude_facts.proofs.Label.{formed-passes, passes-formed}
 use Rattle.altdude_facts.proofs.Settled.{unreadable-iff, encode-settled, decode-settled}
 

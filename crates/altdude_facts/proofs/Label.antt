@@ -8,11 +8,12 @@ use lib.ListN.{length}
 use native.Mathlib.Omega.{arith}
 use Rattle.basis.specs.Rows.{at}
 use Rattle.basis.proofs.Tests.{cases, true-not-false, at-each, each-at, none-iff}
-use Rattle.altdude.specs.Symbols.{symbolOf, hasEdgeHyphen, firstOutside}
+use Rattle.ascii.specs.Ldh.{hasEdgeHyphen}
+use Rattle.ascii.proofs.EdgeHyphen.{edges-iff}
+use Rattle.altdude.specs.Symbols.{symbolOf, firstOutside}
 use Rattle.altdude.specs.Decoding.{isReadable}
 use Rattle.altdude_facts.specs.WellFormed.{WellFormed}
 use Rattle.altdude_facts.proofs.Items.{row-readable, readable-row}
-use Rattle.altdude_facts.proofs.Edges.{edges-iff}
 
 -- a label passes the tests
 pub record Passes (l : List ℕ) : Type 0 where

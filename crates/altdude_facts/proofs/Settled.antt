@@ -9,14 +9,15 @@ use Rattle.basis.specs.Rows.{at}
 use Rattle.basis.specs.Causes.{whole, Settles}
 use Rattle.basis.proofs.Tests.{ltb-iff, fails-iff}
 use Rattle.basis.proofs.Causes.{settle-whole, settle-first, settle-done}
+use Rattle.ascii.specs.Ldh.{hasEdgeHyphen}
+use Rattle.ascii.proofs.EdgeHyphen.{edges-iff}
 use Rattle.labels.proofs.FirstTests.{settle-text, settle-label}
-use Rattle.altdude.specs.Symbols.{symbolOf, isCharacter, hasEdgeHyphen, firstOutside}
+use Rattle.altdude.specs.Symbols.{symbolOf, isCharacter, firstOutside}
 use Rattle.altdude.specs.Encoding.{labelOf}
 use Rattle.altdude.specs.Decoding.{isReadable, textOf}
 use Rattle.altdude_facts.specs.WellFormed.{WellFormed}
 use Rattle.altdude.specs.Answer.{encodeOutcome, decodeOutcome}
 use Rattle.altdude_facts.specs.Causes.{NotWellFormed, textCauses, labelCauses}
-use Rattle.altdude_facts.proofs.Edges.{edges-iff}
 use Rattle.altdude_facts.proofs.Label.{formed-passes, passes-formed}
 
 -- given the earlier tests, the last one fails exactly where the label is not well formed

@@ -1,7 +1,7 @@
 -- AltDUDE as a codec, of which the demands speak.
 use mathlib.Core.Path.{_≡_}
-use Rattle.basis.specs.Case.{SameButCase}
 use Rattle.basis.specs.Codec.{Codec}
+use Rattle.ascii.specs.Case.{SameButCase}
 use Rattle.altdude.specs.Encoding.{labelOf}
 use Rattle.altdude.specs.Decoding.{textOf}
 use Rattle.altdude.specs.Answer.{encodeOutcome, decodeOutcome}

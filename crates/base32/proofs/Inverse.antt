@@ -10,10 +10,10 @@ use borrow.Author.Tests.{eqb-true, lt-ltb}
 use native.Mathlib.Omega.{arith}
 use Rattle.basis.specs.Tests.{both, within, every, firstBelow, firstIn}
 use Rattle.basis.specs.Rows.{at}
-use Rattle.basis.specs.Case.{small, SameLetter}
 use Rattle.basis.proofs.Tests.{cases, by-lt, both-left, both-right, within-low, at-each, first-le, first-here}
 use Rattle.basis.proofs.Lists.{at-past}
-use Rattle.basis.proofs.Case.{small-small, small-or-digit, letter-same, same-letter}
+use Rattle.ascii.specs.Case.{small, SameLetter}
+use Rattle.ascii.proofs.Case.{small-small, small-or-digit, letter-same, same-letter}
 use Rattle.base32.specs.Alphabet.{altdude, lace, characterOf, valueOf, isAlphabet, isDistinct, isCharacter}
 
 -- the value looks at the small form alone
@@ -36,23 +36,23 @@ module _ (alphabet : List ℕ) (test : isAlphabet alphabet ≡ true) where
   unfolding isAlphabet
   length-alphabet = eqb-true (length alphabet) 32 (both-left _ _ test)
 
-  -- every entry is a small letter or a digit
-  entry : (q : ℕ) → q < 32 → (within 97 122 (at alphabet q) || within 48 57 (at alphabet q)) ≡ true
+  -- every element is a small letter or a digit
+  small-or-digit-at : (q : ℕ) → q < 32 → (within 97 122 (at alphabet q) || within 48 57 (at alphabet q)) ≡ true
   unfolding isAlphabet
-  entry q h =
+  small-or-digit-at q h =
       let e : q < length alphabet = omega (arith, length-alphabet) in
       at-each _ _ (both-left _ _ (both-right _ _ test)) q e
 
   -- so it is its own small form
-  entry-small : (q : ℕ) → q < 32 → small (at alphabet q) ≡ at alphabet q
-  entry-small q h = small-or-digit (at alphabet q) (entry q h)
+  character-small : (q : ℕ) → q < 32 → small (at alphabet q) ≡ at alphabet q
+  character-small q h = small-or-digit (at alphabet q) (small-or-digit-at q h)
 
-  -- and no hyphen; nor is what stands past the end
+  -- and no hyphen; nor is what is past the end
   pub character-no-hyphen : (q : ℕ) → characterOf alphabet q ≡ 45 → ⊥
   unfolding characterOf
   character-no-hyphen q e =
       by-lt q 32
-      (λ h. omega (arith, from-digits (at alphabet q) (entry q h)))
+      (λ h. omega (arith, from-digits (at alphabet q) (small-or-digit-at q h)))
       (λ h. omega (arith, at-past alphabet q (omega (arith, length-alphabet))))
     where
       from-digits : (c : ℕ) → (within 97 122 c || within 48 57 c) ≡ true → 48 ≤ c
@@ -66,7 +66,7 @@ module _ (alphabet : List ℕ) (test : isAlphabet alphabet ≡ true) where
   unfolding isAlphabet isDistinct valueOf characterOf
   value-character q h =
       let e : q < length alphabet = omega (arith, length-alphabet) in
-      rw (entry-small q h) (eqb-true _ _ (at-each _ _ (both-right _ _ (both-right _ _ test)) q e))
+      rw (character-small q h) (eqb-true _ _ (at-each _ _ (both-right _ _ (both-right _ _ test)) q e))
 
   pub value-le : (b : ℕ) → valueOf alphabet b ≤ 32
   unfolding valueOf

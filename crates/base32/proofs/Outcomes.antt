@@ -1,15 +1,14 @@
--- What the Base32 writer and reader answer at each return, and that the causes settle it.
+-- The causes settle what the Base32 writer and reader answer.
 use Prim.Native.Nat.{ℕ, _≤_, _<_}
 use mathlib.Core.Path.{_≡_}
-use mathlib.Core.Bool.{true, false, not}
+use mathlib.Core.Bool.{not}
 use mathlib.Core.Logic.{⊎-elim}
 use mathlib.Core.List.{List}
 use lib.Dec.{ltb}
 use lib.ListN.{length}
-use borrow.Author.Tests.{lt-ltb, le-ltb}
 use native.Mathlib.Omega.{arith}
 use Rattle.basis.specs.Rows.{at}
-use Rattle.basis.specs.Outcome.{done, refused, refusedIf}
+use Rattle.basis.specs.Outcome.{refused}
 use Rattle.basis.specs.Causes.{Settles}
 use Rattle.basis.proofs.Tests.{ltb-iff, not-iff}
 use Rattle.basis.proofs.Causes.{settle-whole, settle-first, settle-done}
@@ -18,34 +17,6 @@ use Rattle.base32.specs.Form.{octetCount, isLawful}
 use Rattle.base32.specs.Base32.{quintetCount}
 use Rattle.base32.specs.Answer.{firstOutside, encodeOutcome, decodeOutcome}
 use Rattle.base32.specs.Causes.{encodeCauses, decodeCauses}
-
-module _ (octets : List ℕ) (capacity n : ℕ) (e : n ≡ quintetCount (length octets)) where
-  pub encode-capacity : capacity < n → encodeOutcome octets capacity ≡ refused 1 0
-  unfolding encodeOutcome refusedIf
-  encode-capacity h = simp (← e, lt-ltb _ _ h)
-
-  pub encode-done : n ≤ capacity → encodeOutcome octets capacity ≡ done n
-  unfolding encodeOutcome refusedIf
-  encode-done h = simp (← e, le-ltb _ _ h)
-
-module _ (characters : List ℕ) (capacity n : ℕ) (e : n ≡ octetCount (length characters)) where
-  pub decode-capacity : capacity < n → decodeOutcome characters capacity ≡ refused 1 0
-  unfolding decodeOutcome refusedIf
-  decode-capacity h = simp (← e, lt-ltb _ _ h)
-
-  module _ (h : n ≤ capacity) (bad : ℕ) (f : bad ≡ firstOutside lace characters) where
-    pub decode-outside : bad < length characters → decodeOutcome characters capacity ≡ refused 7 bad
-    unfolding decodeOutcome refusedIf
-    decode-outside g = simp (← e, le-ltb _ _ h, ← f, lt-ltb _ _ g)
-
-    module _ (g : length characters ≤ bad) where
-      pub decode-unlawful : isLawful (valuesOf lace characters) ≡ false → decodeOutcome characters capacity ≡ refused 9 0
-      unfolding decodeOutcome refusedIf
-      decode-unlawful l = simp (← e, le-ltb _ _ h, ← f, le-ltb _ _ g, l)
-
-      pub decode-done : isLawful (valuesOf lace characters) ≡ true → decodeOutcome characters capacity ≡ done n
-      unfolding decodeOutcome refusedIf
-      decode-done l = simp (← e, le-ltb _ _ h, ← f, le-ltb _ _ g, l)
 
 pub encode-settled : (octets : List ℕ) (capacity : ℕ) → Settles (encodeCauses octets capacity) (quintetCount (length octets)) (encodeOutcome octets capacity)
 unfolding encodeOutcome

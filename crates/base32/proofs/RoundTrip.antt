@@ -6,9 +6,9 @@ use mathlib.Core.List.{List, map, map-map, map-id}
 use lib.ListN.{length, length-map}
 use borrow.Author.Tests.{lt-ltb}
 use Rattle.basis.specs.Rows.{at, AllBelow}
-use Rattle.basis.specs.Case.{small}
 use Rattle.basis.proofs.Tests.{first-none}
 use Rattle.basis.proofs.Lists.{map-same, at-map}
+use Rattle.ascii.specs.Case.{small}
 use Rattle.base32.specs.Alphabet.{characterOf, valueOf, isCharacter, isAlphabet, valuesOf}
 use Rattle.base32.specs.Form.{isLawful}
 use Rattle.base32.specs.Base32.{toQuintets, toOctets, charactersOf}

@@ -6,7 +6,7 @@ use lib.Dec.{eqb, ltb}
 use lib.ListN.{length}
 use Rattle.basis.specs.Tests.{both, within, every, everyIn, firstIn}
 use Rattle.basis.specs.Rows.{at}
-use Rattle.basis.specs.Case.{small}
+use Rattle.ascii.specs.Case.{small}
 
 -- AltDUDE's characters for 0 to 31: abcdefghijkmnpqrstuvwxyz23456789
 unfoldable pub altdude : List ℕ
@@ -32,11 +32,11 @@ valueOf alphabet byte = firstIn (eqb (small byte)) alphabet
 unfoldable pub isCharacter : List ℕ → ℕ → Bool
 isCharacter alphabet byte = ltb (valueOf alphabet byte) 32
 
--- no entry stands twice: the first place of each is its own
+-- no element is there twice: the first place of each is its own
 unfoldable pub isDistinct : List ℕ → Bool
 isDistinct alphabet = every (length alphabet) (λ i. eqb (firstIn (eqb (at alphabet i)) alphabet) i)
 
--- the test of an alphabet: 32 entries, small letters or digits, distinct
+-- the test of an alphabet: 32 elements, small letters or digits, distinct
 unfoldable pub isAlphabet : List ℕ → Bool
 isAlphabet alphabet =
     both (eqb (length alphabet) 32)

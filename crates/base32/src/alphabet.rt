@@ -1,8 +1,8 @@
 // The two alphabets as tables indexed by quintet, and the look-up of a character whatever its case.
+use ascii::small_form;
 ghost use mathlib.Core.Path.{_≡_};
 ghost use lib.Dec.{eqb};
 ghost use Rattle.basis.specs.Tests.{firstIn};
-ghost use Rattle.basis.specs.Case.{small};
 ghost use Rattle.base32.specs.Alphabet.{altdude, lace, characterOf, valueOf};
 ghost use Rattle.base32.specs.Answer.{firstOutside};
 
@@ -10,20 +10,7 @@ const ALTDUDE: [u8; 32] = *b"abcdefghijkmnpqrstuvwxyz23456789";
 
 const LACE: [u8; 32] = *b"abcdefghijklmnopqrstuvwxyz234567";
 
-// The small form of A to Z, any other byte itself.
-pub fn small_form(byte: u8) -> u8
-    ensures { λ r. ⌜ r ≡ small byte ⌝ }
-{
-    if byte < 65 {
-        return byte;
-    }
-    if 90 < byte {
-        return byte;
-    }
-    byte + 32
-}
-
-// The index of the first entry that is the byte, or the length.
+// The index of the first element that is the byte, or the length.
 fn place(alphabet: &[u8], byte: u8) -> usize
     ensures { λ r. ⌜ r ≡ firstIn (eqb byte) (now (alphabet .entry)) ⌝ }
 {

@@ -20,22 +20,27 @@ settle-done count = record {
   succeeds = λ n. (λ e. (tt, cc), λ p. let e = p .1 in cc);
 }
 
--- a cause that stands, and stands at one position alone
+-- the same causes settle one outcome alone
+pub settled-once : {causes : List Cause} {count : ℕ} (o p : Outcome) → Settles causes count o → Settles causes count p → o ≡ p
+settled-once (done n) p s r = sym (r .succeeds n .1 (s .succeeds n .0 refl))
+settled-once (refused number position) p s r = sym (r .refuses number position .1 (s .refuses number position .0 refl))
+
+-- a cause that holds, and holds at one position alone
 settle-yes : (c : Cause) (position : ℕ) {causes : List Cause} {count : ℕ}
-    → c .StandsAt position → ((p : ℕ) → c .StandsAt p → p ≡ position) → Settles (c ∷ causes) count (refused (c .number) position)
-settle-yes c position {causes} {count} stands only = record { refuses = λ number p. (there number p, back number p); succeeds = λ n. (λ e. absurd (done-not-refused e refl), λ q. absurd (q .0 .0 position stands)) }
+    → c .HoldsAt position → ((p : ℕ) → c .HoldsAt p → p ≡ position) → Settles (c ∷ causes) count (refused (c .number) position)
+settle-yes c position {causes} {count} there-holds only = record { refuses = λ number p. (there number p, back number p); succeeds = λ n. (λ e. absurd (done-not-refused e refl), λ q. absurd (q .0 .0 position there-holds)) }
   where
     there : (number p : ℕ) → refused (c .number) position ≡ refused number p → FirstCause (c ∷ causes) number p
     there number p e =
         let k : c .number ≡ number = cc in
         let q : position ≡ p = cc in
-        inl (k, subst (c .StandsAt) q stands)
+        inl (k, subst (c .HoldsAt) q there-holds)
 
     back : (number p : ℕ) → FirstCause (c ∷ causes) number p → refused (c .number) position ≡ refused number p
     back number p (inl f) = ap₂ refused (f .0) (sym (only p (f .1)))
-    back number p (inr f) = absurd (f .0 position stands)
+    back number p (inr f) = absurd (f .0 position there-holds)
 
--- a cause that stands nowhere
+-- a cause that holds nowhere
 settle-no : (c : Cause) {causes : List Cause} {count : ℕ} {outcome : Outcome} → Absent c → Settles causes count outcome → Settles (c ∷ causes) count outcome
 settle-no c {causes} {count} {outcome} absent s = record {
   refuses = λ number p. (λ e. inr (absent, s .refuses number p .0 e), back number p);
@@ -46,7 +51,7 @@ settle-no c {causes} {count} {outcome} absent s = record {
     back number p (inl f) = absurd (absent p (f .1))
     back number p (inr f) = s .refuses number p .1 (f .1)
 
--- a cause that stands nowhere may be left out
+-- a cause that holds nowhere may be left out
 pub settle-without : (c : Cause) {causes : List Cause} {count : ℕ} {outcome : Outcome} → Absent c → Settles (c ∷ causes) count outcome → Settles causes count outcome
 settle-without c {causes} {count} {outcome} absent s = record {
   refuses = λ number p. (λ e. there number p (s .refuses number p .0 e), λ f. s .refuses number p .1 (inr (absent, f)));
@@ -57,7 +62,7 @@ settle-without c {causes} {count} {outcome} absent s = record {
     there number p (inl f) = absurd (absent p (f .1))
     there number p (inr f) = f .1
 
--- causes that were moved stand exactly where those of the row do
+-- causes that were moved hold exactly where those of the row do
 module _ (f : ℕ → ℕ) where
   absent-moved : (c : Cause) → Absent c → Absent (moved f c)
   absent-moved c absent position h = absent (h .0) (h .2)
@@ -113,37 +118,37 @@ settle-andThen f cs later count total (refused number p) next s rest = record {
         ap₂ refused m (ap f o ∙ sym (h .1))
     back k q (inr h) = absurd (some-cause cs number p (s .refuses number p .0 refl) (h .0))
 
--- a test that holds exactly where the cause stands; if it fails, the later causes settle the rest
+-- a test that holds exactly where the cause holds; if it fails, the later causes settle the rest
 pub settle-if : (test : Bool) (c : Cause) (position : ℕ) {causes : List Cause} {count : ℕ} {next : Outcome}
-    → (test ≡ true → c .StandsAt position)
-    → ((p : ℕ) → c .StandsAt p → (test ≡ true) × (p ≡ position))
+    → (test ≡ true → c .HoldsAt position)
+    → ((p : ℕ) → c .HoldsAt p → (test ≡ true) × (p ≡ position))
     → (test ≡ false → Settles causes count next)
     → Settles (c ∷ causes) count (refusedIf test (c .number) position next)
 unfolding refusedIf
-settle-if true c position stands only rest = settle-yes c position (stands refl) (λ p h. only p h .1)
-settle-if false c position stands only rest = settle-no c (λ p h. true-not-false (only p h .0) refl) (rest refl)
+settle-if true c position there-holds only rest = settle-yes c position (there-holds refl) (λ p h. only p h .1)
+settle-if false c position there-holds only rest = settle-no c (λ p h. true-not-false (only p h .0) refl) (rest refl)
 
 -- a cause with no place of its own
-pub settle-whole : (test : Bool) (number : ℕ) {Stands : Type 0} {causes : List Cause} {count : ℕ} {next : Outcome}
-    → (test ≡ true) ↔ Stands
+pub settle-whole : (test : Bool) (number : ℕ) {Holds : Type 0} {causes : List Cause} {count : ℕ} {next : Outcome}
+    → (test ≡ true) ↔ Holds
     → (test ≡ false → Settles causes count next)
-    → Settles (whole number Stands ∷ causes) count (refusedIf test number 0 next)
-settle-whole test number {Stands} holds rest = settle-if test (whole number Stands) 0 (λ e. (refl, holds .0 e)) (λ p h. (holds .1 (h .1), h .0)) rest
+    → Settles (whole number Holds ∷ causes) count (refusedIf test number 0 next)
+settle-whole test number {Holds} holds rest = settle-if test (whole number Holds) 0 (λ e. (refl, holds .0 e)) (λ p h. (holds .1 (h .1), h .0)) rest
 
--- a cause that stands exactly at the place of the first index at which a test holds
+-- a cause that holds exactly at the place of the first index at which a test holds
 pub settle-place : (n : ℕ) (test : ℕ → Bool) (c : Cause) (place : ℕ → ℕ) {causes : List Cause} {count : ℕ} {next : Outcome}
-    → ((i : ℕ) → IsFirst n test i → c .StandsAt (place i))
-    → ((p : ℕ) → c .StandsAt p → (i : ℕ) × (p ≡ place i) × IsFirst n test i)
+    → ((i : ℕ) → IsFirst n test i → c .HoldsAt (place i))
+    → ((p : ℕ) → c .HoldsAt p → (i : ℕ) × (p ≡ place i) × IsFirst n test i)
     → (firstBelow n test ≡ n → Settles causes count next)
     → Settles (c ∷ causes) count (refusedIf (ltb (firstBelow n test) n) (c .number) (place (firstBelow n test)) next)
-settle-place n test c place stands only rest =
+settle-place n test c place there-holds only rest =
     settle-if (ltb (firstBelow n test) n) c (place (firstBelow n test))
-    (λ e. stands (firstBelow n test) (first-is n test (ltb-true _ _ e)))
-    (λ p h. standing p (only p h))
+    (λ e. there-holds (firstBelow n test) (first-is n test (ltb-true _ _ e)))
+    (λ p h. only-there p (only p h))
     (λ e. rest (let g = first-le n test in omega (arith, ltb-false (firstBelow n test) n e)))
   where
-    standing : (p : ℕ) → (i : ℕ) × (p ≡ place i) × IsFirst n test i → (ltb (firstBelow n test) n ≡ true) × (p ≡ place (firstBelow n test))
-    standing p (i, q, f) =
+    only-there : (p : ℕ) → (i : ℕ) × (p ≡ place i) × IsFirst n test i → (ltb (firstBelow n test) n ≡ true) × (p ≡ place (firstBelow n test))
+    only-there p (i, q, f) =
         let e = first-at n test i (f .inside) (f .here) (f .before) in
         let h : i < n = f .inside in
         (lt-ltb (firstBelow n test) n (omega arith), q ∙ ap place (sym e))
@@ -154,8 +159,8 @@ pub settle-first : (n : ℕ) (test : ℕ → Bool) (number : ℕ) {causes : List
     → Settles (placed number (IsFirst n test) ∷ causes) count (refusedIf (ltb (firstBelow n test) n) number (firstBelow n test) next)
 settle-first n test number rest = settle-place n test (placed number (IsFirst n test)) (λ i. i) (λ i h. h) (λ p h. (p, refl, h)) rest
 
--- where such a cause stands nowhere, its test fails
-pub absent-whole : (test : Bool) {Stands : Type 0} → (test ≡ true) ↔ Stands → ((position : ℕ) → (position ≡ 0) × Stands → ⊥) → test ≡ false
+-- where such a cause holds nowhere, its test fails
+pub absent-whole : (test : Bool) {Holds : Type 0} → (test ≡ true) ↔ Holds → ((position : ℕ) → (position ≡ 0) × Holds → ⊥) → test ≡ false
 absent-whole test holds absent = cases test (λ e. absurd (absent 0 (refl, holds .0 e))) (λ e. e)
 
 pub absent-first : (n : ℕ) (test : ℕ → Bool) → ((position : ℕ) → IsFirst n test position → ⊥) → firstBelow n test ≡ n

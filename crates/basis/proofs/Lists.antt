@@ -104,7 +104,7 @@ fill-more now old f i v h e q =
 pub fill-done : (now old whole : List ℕ) (f : ℕ → ℕ) (i n : ℕ) → i ≡ n → whole ≡ tabulate n f → now ≡ tabulate i f ++ drop i old → now ≡ whole ++ drop n old
 fill-done now old whole f i n e w q = q ∙ ap (λ (k : ℕ). tabulate k f ++ drop k old) e ∙ ap (λ (l : List ℕ). l ++ drop n old) (sym w)
 
--- values stored one by one from the front stand before what was there
+-- values stored one by one from the front are followed by what was there
 pub sets-front : (values buffer : List ℕ) → length values ≤ length buffer → sets buffer 0 values ≡ values ++ drop (length values) buffer
 sets-front values buffer h =
     let g : 0 + length values ≤ length buffer = omega arith in

@@ -1,4 +1,4 @@
--- Laws on outcomes: the tests in their turn, what an entry leaves in the buffer, and the numbers of the errors.
+-- Laws on outcomes: the tests in their turn, what a function leaves in the buffer, and the numbers of the errors.
 use Prim.Native.Nat.{ℕ, suc, _≤_, _<_}
 use mathlib.Core.Path.{_≡_, refl, sym, _∙_}
 use mathlib.Core.Bool.{Bool, true, false}
@@ -8,13 +8,13 @@ use lib.ListN.{length, take, drop}
 use borrow.Author.Tests.{lt-ltb, le-ltb, eq-eqb, ne-eqb}
 use denote.Enum.Declared.{tagOf}
 use native.Mathlib.Omega.{arith}
-use Rattle.basis.specs.Outcome.{Outcome, done, refused, refusedIf, bufferAfter, numberOf}
+use Rattle.basis.specs.Outcome.{Outcome, done, refused, refusedIf, andThen, bufferAfter, numberOf}
 use Rattle.basis.specs.declared.ErrorCode.{ErrorCode}
 use Rattle.basis.specs.declared.ErrorCode.the-variants.{Capacity, Empty, TooLong, NotAPoint, EdgeHyphen, AllLdh, OutsideAlphabet, NoPrefix, NotWellFormed, UnpairedSurrogate, UnknownScheme, OddByteCount, Truncated, Malformed}
 use Rattle.basis.proofs.ErrorCode.{the-type}
 use Rattle.basis.proofs.Parts.{front-is, front-fits, front-long}
 
--- a test in its turn, by what the code tested: it stops the entry, or the entry goes on to what follows
+-- a test in its turn, by what the code tested: it stops the function, or the function goes on to what follows
 module _ (number position : ℕ) (next : Outcome) where
   pub stop-if : (test : Bool) → test ≡ true → refusedIf test number position next ≡ refused number position
   unfolding refusedIf
@@ -24,12 +24,12 @@ module _ (number position : ℕ) (next : Outcome) where
   unfolding refusedIf
   pass-if test e = rw e
 
-  -- as a function told it
-  pub stop-told : (told test : Bool) → told ≡ test → told ≡ true → refusedIf test number position next ≡ refused number position
-  stop-told told test is e = stop-if test (sym is ∙ e)
+  -- as a function answered it
+  pub stop-given : (given test : Bool) → given ≡ test → given ≡ true → refusedIf test number position next ≡ refused number position
+  stop-given given test is e = stop-if test (sym is ∙ e)
 
-  pub pass-told : (told test : Bool) → told ≡ test → told ≡ false → refusedIf test number position next ≡ next
-  pass-told told test is e = pass-if test (sym is ∙ e)
+  pub pass-given : (given test : Bool) → given ≡ test → given ≡ false → refusedIf test number position next ≡ next
+  pass-given given test is e = pass-if test (sym is ∙ e)
 
   -- the order of two numbers
   pub stop-below : (m n : ℕ) → m < n → refusedIf (ltb m n) number position next ≡ refused number position
@@ -45,6 +45,14 @@ module _ (number position : ℕ) (next : Outcome) where
   pub pass-equal : (m n : ℕ) → (m ≡ n → ⊥) → refusedIf (eqb m n) number position next ≡ next
   pass-equal m n d = pass-if (eqb m n) (ne-eqb m n d)
 
+-- a capacity against the size that is needed, as the code computed it
+module _ (number position : ℕ) (next : Outcome) (size needed : ℕ) (is : size ≡ needed) (capacity : ℕ) where
+  pub stop-short : capacity < size → refusedIf (ltb capacity needed) number position next ≡ refused number position
+  stop-short h = rw (← is) (stop-below number position next capacity size h)
+
+  pub pass-short : size ≤ capacity → refusedIf (ltb capacity needed) number position next ≡ next
+  pass-short h = rw (← is) (pass-below number position next capacity size h)
+
 -- an index that a search found below the end, or did not
 module _ (number end : ℕ) (next : Outcome) (found first : ℕ) (is : found ≡ first) where
   pub stop-found : found < end → refusedIf (ltb first end) number first next ≡ refused number found
@@ -53,7 +61,7 @@ module _ (number end : ℕ) (next : Outcome) (found first : ℕ) (is : found ≡
   pub pass-found : end ≤ found → refusedIf (ltb first end) number first next ≡ next
   pass-found h = rw (← is) (pass-below number found next found end h)
 
--- an entry that answers with its outcome, and leaves the buffer or has put the values in front
+-- a function that answers with its outcome, and leaves the buffer or has put the values in front
 pub refused-leaves : (outcome : Outcome) (values buffer : List ℕ) (number position : ℕ) → outcome ≡ refused number position
     → (refused number position ≡ outcome) × (buffer ≡ bufferAfter outcome values buffer)
 unfolding bufferAfter
@@ -76,6 +84,18 @@ pub handed-leaves : (outcome next answer : Outcome) (values made buffer now : Li
     → (answer ≡ next) × (now ≡ bufferAfter next made buffer) → (answer ≡ outcome) × (now ≡ bufferAfter outcome values buffer)
 handed-leaves outcome next answer values made buffer now o v given = rw (o, v) given
 
+-- an outcome and what follows it: the outcome was refused, or was done and what follows answered
+module _ (first next answer : Outcome) (values buffer : List ℕ) where
+  pub andThen-refused-leaves : (number position : ℕ) → first ≡ refused number position → answer ≡ refused number position
+      → (answer ≡ andThen (λ p. p) first next) × (buffer ≡ bufferAfter (andThen (λ p. p) first next) values buffer)
+  unfolding andThen
+  andThen-refused-leaves number position e a = refusal-leaves _ answer values buffer number position a (rw e)
+
+  pub andThen-done-leaves : (count : ℕ) (now : List ℕ) → first ≡ done count → (answer ≡ next) × (now ≡ bufferAfter next values buffer)
+      → (answer ≡ andThen (λ p. p) first next) × (now ≡ bufferAfter (andThen (λ p. p) first next) values buffer)
+  unfolding andThen
+  andThen-done-leaves count now e given = rw e given
+
 -- what is done leaves its values before the count
 module _ (outcome : Outcome) (values old now : List ℕ) (n : ℕ) (is : outcome ≡ done n) (count : n ≡ length values) (left : now ≡ bufferAfter outcome values old) where
   leaves : now ≡ values ++ drop n old
@@ -97,6 +117,18 @@ done-not-refused d r = let z : _≡_ {A = ℕ} 0 1 = cc in omega arith
 
 pub done-count : {outcome : Outcome} {m n : ℕ} → outcome ≡ done m → outcome ≡ done n → m ≡ n
 done-count d e = cc
+
+-- a refusal that is not by what follows is the same whatever follows
+pub refusal-kept : (place : ℕ → ℕ) (o last next : Outcome) {count number position : ℕ} → last ≡ done count → andThen place o last ≡ refused number position → andThen place o next ≡ refused number position
+unfolding andThen
+refusal-kept place (done n) last next l e = absurd (done-not-refused l e)
+refusal-kept place (refused k p) last next l e = e
+
+-- an outcome and what follows it are done in turn only if both are
+pub both-done : (place : ℕ → ℕ) (o next : Outcome) {n : ℕ} → andThen place o next ≡ done n → ((m : ℕ) × (o ≡ done m)) × (next ≡ done n)
+unfolding andThen
+both-done place (done m) next e = ((m, refl), e)
+both-done place (refused k p) next e = absurd (done-not-refused e refl)
 
 -- what holds of the refusal where a test holds, and of what follows where it fails, holds of the test in its turn
 pub by-test : (P : Outcome → Type 0) (test : Bool) (number position : ℕ) (next : Outcome) → (test ≡ true → P (refused number position)) → (test ≡ false → P next)

@@ -22,6 +22,9 @@ by-lt m n less more = cases (ltb m n) (λ e. less (ltb-true m n e)) (λ e. more 
 pub ltb-iff : (m n : ℕ) → (ltb m n ≡ true) ↔ (m < n)
 ltb-iff m n = (ltb-true m n, lt-ltb m n)
 
+pub leb-iff : (m n : ℕ) → (leb m n ≡ true) ↔ (m ≤ n)
+leb-iff m n = (leb-true m n, le-leb m n)
+
 pub eqb-iff : (m n : ℕ) → (eqb m n ≡ true) ↔ (m ≡ n)
 eqb-iff m n = (eqb-true m n, eq-eqb m n)
 
@@ -102,6 +105,12 @@ each-at (suc n) test h = both-true (h zero (omega arith)) (each-at n (λ i. test
 -- a test that fails at one number does not hold at every number
 pub not-each : (n : ℕ) (test : ℕ → Bool) (k : ℕ) → k < n → test k ≡ false → every n test ≡ false
 not-each n test k h e = cases (every n test) (λ t. absurd (true-not-false (at-each n test t k h) e)) (λ f. f)
+
+-- tests that are the same at each number below n
+pub every-same : (n : ℕ) (f g : ℕ → Bool) → ((k : ℕ) → k < n → f k ≡ g k) → every n f ≡ every n g
+unfolding every
+every-same zero f g h = refl
+every-same (suc n) f g h = rw (h zero (omega arith), every-same n (λ i. f (suc i)) (λ i. g (suc i)) (λ k l. h (suc k) (omega arith)))
 
 -- what holds of 0, and of each successor of a number below n, holds of each number below n + 1
 pub from-first : (P : ℕ → Type 0) (n : ℕ) → P 0 → ((k : ℕ) → k < n → P (suc k)) → (k : ℕ) → k < suc n → P k

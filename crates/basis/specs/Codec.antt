@@ -17,10 +17,10 @@ pub record Codec : Type 1 where
   pub SameLabel : List ℕ → List ℕ → Type 0
   pub SameText : List ℕ → List ℕ → Type 0
 
--- a text may be written: no cause, capacity aside, stands against it
+-- a text may be written: no cause against it holds, capacity aside
 abbrev pub Writable : Codec → List ℕ → Type 0
 Writable c t = NoCause (c .textCauses t)
 
--- a label may be read: no cause, capacity aside, stands against it
+-- a label may be read: no cause against it holds, capacity aside
 abbrev pub Readable : Codec → List ℕ → Type 0
 Readable c l = NoCause (c .labelCauses l)

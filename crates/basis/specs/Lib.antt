@@ -1,7 +1,7 @@
--- The shared definitions: tests, rows, case, outcomes, causes, codecs.
+-- The shared definitions: tests, rows, outcomes, causes, codecs.
 pub mod Tests
 pub mod Rows
-pub mod Case
 pub mod Outcome
 pub mod Causes
 pub mod Codec
+pub mod Internal

@@ -1,4 +1,4 @@
--- What an entry answers, in the paper's numbers, and what it leaves in the lent buffer.
+-- What a function answers, in the paper's numbers, and what it leaves in the buffer.
 use Prim.Native.Nat.{ℕ}
 use mathlib.Core.Bool.{Bool, true, false}
 use mathlib.Core.List.{List, _++_}
@@ -25,7 +25,7 @@ numberOf OddByteCount = 12
 numberOf Truncated = 13
 numberOf Malformed = 14
 
--- an entry is done, with a count, or refuses, with the error's number and position
+-- a function is done, with a count, or refuses, with the error's number and position
 pub data Outcome : Type 0 where
   done : ℕ → Outcome
   refused : ℕ → ℕ → Outcome

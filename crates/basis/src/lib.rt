@@ -1,4 +1,4 @@
-// The numbered errors that every entry answers with, and an answer in bytes. The shared definitions stand in specs/, the laws
+// The numbered errors that every function answers with, and an answer in bytes. The shared definitions are in specs/, the laws
 // on them in proofs/.
 ghost use mathlib.Core.Path.{_≡_};
 ghost use Rattle.basis.specs.Outcome.{numberOf, countOf, bytesOutcome};
@@ -24,7 +24,7 @@ pub enum ErrorCode {
 // How many bytes.
 pub struct ByteCount(pub usize);
 
-// The answer of an entry that writes bytes: how many, or the error.
+// The answer of a function that writes bytes: how many, or the error.
 pub enum BytesAnswer {
     Bytes(ByteCount),
     Error { code: ErrorCode, position: usize },

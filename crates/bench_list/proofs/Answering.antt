@@ -59,7 +59,7 @@ module _ {limit : ℕ} {before chunk old out : List ℕ} {at : ℕ} {line : List
       let all : endedIn limit before chunk ≡ a .answered = a .ended ∙ ap (λ (ls : List (List ℕ)). a .answered ++ ls) none ∙ append-nil (a .answered) in
       record {
         count = rw all (a .filling .count);
-        stands = rw all (a .filling .stands);
+        front = rw all (a .filling .front);
         held-count = rw (a .holds, k) c;
         holds = rw (a .holds, k) t;
       }
@@ -118,13 +118,13 @@ module _ {limit : ℕ} {before chunk old out : List ℕ} {at : ℕ} {line : List
             inside = omega arith;
           }
 
--- what stands in front after a chunk
+-- what is in front after a chunk
 module _ {limit : ℕ} {before chunk old out : List ℕ} {written : ℕ} {line : List ℕ} {held : ℕ} (a : Answered limit before chunk old out written line held) where
   pub written-fits : written ≤ length out
-  written-fits = front-fits written (benchLines (endedIn limit before chunk)) _ out (a .count) (a .stands)
+  written-fits = front-fits written (benchLines (endedIn limit before chunk)) _ out (a .count) (a .front)
 
   pub written-long : written ≡ length (take written out)
-  written-long = front-long written (benchLines (endedIn limit before chunk)) _ out (a .count) (a .stands)
+  written-long = front-long written (benchLines (endedIn limit before chunk)) _ out (a .count) (a .front)
 
   pub held-fits : held ≤ length line
   held-fits = omega (arith, ap length (a .holds), length-take held line, a .held-count)

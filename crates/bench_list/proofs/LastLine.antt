@@ -20,7 +20,7 @@ no-line (b ∷ last) h = absurd (omega arith)
 
 -- the bytes that are believed, and what was written for them
 module _ (last held : List ℕ) (is : last ≡ held) (old now : List ℕ) (n : ℕ) where
-  -- so many bytes, and they stand in front
+  -- so many bytes, and they are in front
   abbrev Wrote : List ℕ → Type 0
   Wrote bytes = (n ≡ length bytes) × (now ≡ inFront bytes old)
 

@@ -1,5 +1,4 @@
 -- Laws on what is printed.
-pub mod TextLines
 pub mod Reading
 pub mod Widths
 pub mod LastLine

@@ -1,4 +1,4 @@
--- How long the lines are: what is printed for a line has room in what is lent for it.
+-- How long the lines are: what is printed for a line has room in what is passed for it.
 use Prim.Native.Nat.{ℕ, _≤_, _<_}
 use mathlib.Core.Path.{_≡_, refl}
 use mathlib.Core.Bool.{Bool}

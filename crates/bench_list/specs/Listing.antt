@@ -2,7 +2,8 @@
 use Prim.Native.Nat.{ℕ}
 use mathlib.Core.List.{List, [], _∷_, _++_}
 use Rattle.basis.specs.Outcome.{Outcome, done, refused}
-use Rattle.firmware.specs.Answer.{pointsOf, readOutcome, readText}
+use Rattle.utf16.specs.Bytes.{pointsOf}
+use Rattle.firmware.specs.Answer.{readOutcome, readText}
 use Rattle.report.specs.Lines.{pointsLine, refusedLine}
 use Rattle.lines.specs.Run.{endedIn, heldIn, lastLine}
 use Rattle.streams.specs.Reading.{believed}

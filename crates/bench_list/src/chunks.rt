@@ -16,7 +16,7 @@ struct Progress {
     held: usize,
 }
 
-// What a turn came to: so many bytes were read, so many bytes answer the lines that end in them, and so many are held of the
+// What a turn did: so many bytes were read, so many bytes answer the lines that end in them, and so many are held of the
 // line that has not ended; or reading is over.
 pub(crate) enum Turn {
     Lines {

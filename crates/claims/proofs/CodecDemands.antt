@@ -9,11 +9,12 @@ use native.Mathlib.Omega.{arith}
 use Rattle.basis.specs.Causes.{Cause, NoCause, Settles}
 use Rattle.basis.specs.Outcome.{Outcome, bufferAfter}
 use Rattle.basis.specs.Codec.{Codec, Readable}
-use Rattle.basis.proofs.Case.{same-but-case}
-use Rattle.basis.proofs.Codec.{Faithful, ReadAlike, Ruled, encode-settled, decode-settled}
+use Rattle.basis.proofs.Codec.{Faithful, encode-settled, decode-settled}
+use Rattle.ascii.proofs.Codec.{ReadAlike, Ruled}
+use Rattle.ascii.proofs.Case.{same-but-case}
 use Rattle.claims.specs.Demands.{Leaves, Reads, Demand2Of, AlikeOf, Demand3Of}
 
--- an entry that is settled by its causes leaves its values, and nothing else, exactly when no cause stands
+-- a function that is settled by its causes leaves its values, and nothing else, exactly when no cause holds
 pub settled-leaves : {causes : List Cause} {outcome : Outcome} (values buffer row : List ℕ) → Settles causes (length values) outcome
     → Leaves outcome values buffer row ↔ (NoCause causes × (row ≡ values))
 unfolding bufferAfter

@@ -1,5 +1,5 @@
 -- Demand 1 holds: the tests of each outcome have listed numbers, and what is done counts its values, for which there is room.
-use Prim.Native.Nat.{ℕ, zero, suc, _+_, _*_, _/_, _≤_, _<_}
+use Prim.Native.Nat.{ℕ, zero, suc, _*_, _/_, _≤_, _<_}
 use mathlib.Core.Path.{_≡_, refl, sym, ap, _∙_}
 use mathlib.Core.Bool.{Bool, true, false}
 use mathlib.Core.List.{List, [], _∷_}
@@ -9,15 +9,18 @@ use lib.Seq.{take-at, drop-at, length-take-le}
 use borrow.Author.Tests.{le-ltb, ltb-false, ne-eqb, not-false}
 use native.Mathlib.Omega.{arith}
 use Rattle.basis.specs.Rows.{AllBelow}
-use Rattle.basis.specs.Outcome.{Outcome, done, refused, refusedIf, bufferAfter}
+use Rattle.basis.specs.Outcome.{Outcome, done, refused, refusedIf, andThen, bufferAfter}
 use Rattle.basis.specs.Outcome as basis
-use Rattle.basis.proofs.Tests.{cases, true-not-false, within-true, within-low, within-high, first-le, none-iff}
+use Rattle.basis.proofs.Tests.{cases, true-not-false, within-low, within-high, first-le, none-iff}
 use Rattle.basis.proofs.Outcome.{by-test, done-not-refused, done-count}
+use Rattle.ascii.specs.Ldh.{isAllLdh}
 use Rattle.utf16.specs.Points.{isPoint, isText, firstNotPoint}
 use Rattle.utf16.specs.Units as utf16
+use Rattle.utf16.specs.Bytes.{unitsOfBytes, bytesOfUnits, pointsOf, bytesOf}
 use Rattle.utf16.specs.Answer as utf16-answer
-use Rattle.utf16.proofs.Refusals.{to-units-settled, to-points-settled}
-use Rattle.utf16.proofs.RoundTrip.{units-text, length-toUnits, length-toPoints}
+use Rattle.utf16.proofs.BytePairs.{length-unitsOfBytes, length-bytesOfUnits, below-unitsOfBytes}
+use Rattle.utf16.proofs.Refusals.{to-units-settled, to-points-settled, points-to-bytes-settled, units-to-bytes-settled, bytes-to-units-settled, bytes-to-points-settled}
+use Rattle.utf16.proofs.RoundTrip.{units-text, length-toUnits, length-toPoints, length-bytesOf}
 use Rattle.base32.specs.Alphabet as alphabet
 use Rattle.base32.specs.Form.{octetCount}
 use Rattle.base32.specs.Base32.{charactersOf, toOctets}
@@ -29,33 +32,29 @@ use Rattle.altdude.specs.Encoding as altdude-encoding
 use Rattle.altdude.specs.Decoding as altdude-decoding
 use Rattle.altdude.specs.Answer as altdude
 use Rattle.altdude.proofs.DecodeLaws as altdude-laws
-use Rattle.lace.specs.Octets.{isAllLdh}
 use Rattle.lace.specs.Encoding as lace-encoding
 use Rattle.lace.specs.Decoding as lace-decoding
 use Rattle.lace.specs.Answer as lace
 use Rattle.lace_facts.proofs.Label as lace-laws
 use Rattle.scheme.specs.declared.Scheme.{Scheme}
 use Rattle.scheme.specs.declared.Scheme.the-variants.{Altdude, Lace}
-use Rattle.scheme.specs.declared.Named.{Named}
-use Rattle.scheme.specs.declared.Named.the-variants.{Known, Unknown}
-use Rattle.scheme.specs.Naming.{numberNames}
+use Rattle.scheme.specs.Naming.{rowOf, numberNames, schemeNamed}
+use Rattle.scheme.specs.Naming as naming
+use Rattle.scheme.proofs.Naming.{by-scheme}
 use Rattle.labels.specs.Tests.{textTests, labelTests}
 use Rattle.scheme.specs.Coding as scheme
-use Rattle.nametable.specs.Format.{countOf, readerOf, lengthOf, labelIn, schemeIn}
-use Rattle.nametable.specs.Answer.{labelJudged, entryJudged, thenEntries, entriesJudged, readOutcome, findOutcome, entryIn, counted, entryText}
-use Rattle.nametable.proofs.EntryLaws.{label-long}
-use Rattle.nametable.proofs.Whole.{found-count, found-short}
-use Rattle.nametable.proofs.Settled.{read-settled, find-settled}
-use Rattle.nametable.proofs.Truncation.{truncated, truncated-entry, prefix-truncated, prefix-truncated-entry}
-use Rattle.wire.specs.Bytes as wire
-use Rattle.wire.specs.Answer as wire-answer
-use Rattle.wire.proofs.RoundTrip as wire-laws
-use Rattle.firmware.specs.Answer.{answerOf, ifKnown, madeBy, pointsOf, bytesOf, writeUnits, writeBy, writeOutcome, writtenLabel, inBytes, readBy, readText}
+use Rattle.nametable.specs.Format.{headerLength, entryLength, labelCapacity, countOf, tableLength, entryAt, kindOf, readerOf, lengthOf, labelIn, schemeIn}
+use Rattle.nametable.specs.Answer.{headerTests, lengthTests, formTests, entryJudged, entriesJudged, readOutcome, entryText, findOutcome, entryRead, judgedEntryOutcome}
+use Rattle.nametable.proofs.TableLaws.{cut-table, find-refused, judged-as-found}
+use Rattle.nametable_facts.proofs.Settled.{read-settled, find-settled, judged-entry-settled}
+use Rattle.nametable_facts.proofs.Truncation.{prefix-truncated}
+use Rattle.nametable_facts.proofs.Whole.{label-long, entry-counts, judged-entry-counts}
+use Rattle.firmware.specs.Answer.{answerOf, writeBy, writeOutcome, writtenLabel, readBy, readText}
 use Rattle.firmware.specs.Answer as firmware
-use Rattle.firmware.proofs.Counts.{write-few, bytes-few, read-few}
+use Rattle.firmware.proofs.Counts.{write-few, read-few}
 use Rattle.report.specs.Lines.{listLine, pointsLine, refusedAtLine, refusedLine}
 use Rattle.report.specs.Answer.{lineOutcome}
-use Rattle.claims.specs.Demand1.{isOneOf, Listed, Answers, Tells, encodeCodes, decodeCodes, tableCodes, writeCodes, readCodes, Demand1}
+use Rattle.claims.specs.Demand1.{isOneOf, Listed, Answers, Tells, encodeCodes, decodeCodes, tableCodes, writeCodes, readCodes, Cut, Demand1}
 use Rattle.claims.proofs.Interface.{written-some, read-some}
 
 -- a chain of tests: each that holds has a listed number
@@ -75,7 +74,7 @@ record Good (codes : List ℕ) (outcome : Outcome) (values : List ℕ) (room : �
   listed : Listed codes outcome
   counts : (n : ℕ) → outcome ≡ done n → (n ≡ length values) × (n ≤ room)
 
--- an entry with such an outcome, whose buffer has the room
+-- a function with such an outcome, whose buffer has the room
 answers : {codes : List ℕ} (outcome : Outcome) {values : List ℕ} {buffer : List ℕ} → Good codes outcome values (length buffer) → Answers codes outcome values buffer
 unfolding bufferAfter basis.countOf
 answers (done n) {values} {buffer} g =
@@ -97,7 +96,7 @@ answers (refused number position) g = record {
   unchanged = refl;
 }
 
--- a chain of tests, at whose end stands the count
+-- a chain of tests that ends with the count
 module _ {codes values : List ℕ} {room : ℕ} where
   good-done : (count : ℕ) → count ≡ length values → count ≤ room → Good codes (done count) values room
   good-done count is fits = record { listed = listed-done count; counts = λ n e. let q : count ≡ n = done-count refl e in rw (← q) (is, fits) }
@@ -110,7 +109,7 @@ module _ {codes values : List ℕ} {room : ℕ} where
   good-if test number position {next} here later =
       by-test (λ o. Good codes o values room) test number position next (λ e. good-refused number position (here e)) later
 
--- the converter
+-- the conversions
 to-units : (points : List ℕ) (count : ℕ) (units : List ℕ)
     → Answers (1 ∷ 4 ∷ []) (utf16-answer.toUnitsOutcome points count (length units)) (utf16.toUnits (take count points)) units
 unfolding utf16-answer.toUnitsOutcome utf16-answer.converted isOneOf
@@ -124,6 +123,32 @@ unfolding utf16-answer.toPointsOutcome utf16-answer.converted isOneOf
 to-points units count points =
     answers _ (good-if _ _ _ (λ _. refl) (λ row. good-if _ _ _ (λ _. refl) (λ room. good-if _ _ _ (λ _. refl) (λ _. good-done _ refl
     (omega (arith, length-toPoints (take count units), length-take-le count units (ltb-false (length units) count row), ltb-false (length points) count room))))))
+
+points-to-bytes : (points : List ℕ) (count : ℕ) (bytes : List ℕ)
+    → Answers (1 ∷ 4 ∷ []) (utf16-answer.pointsToBytesOutcome points count (length bytes)) (bytesOf (take count points)) bytes
+unfolding utf16-answer.pointsToBytesOutcome utf16-answer.converted isOneOf
+points-to-bytes points count bytes =
+    answers _ (good-if _ _ _ (λ _. refl) (λ row. good-if _ _ _ (λ _. refl) (λ room. good-if _ _ _ (λ _. refl) (λ _. good-done _ refl
+    (omega (arith, length-bytesOf (take count points), length-take-le count points (ltb-false (length points) count row), ltb-false (length bytes) (4 * count) room))))))
+
+units-to-bytes : (units : List ℕ) (count : ℕ) (bytes : List ℕ)
+    → Answers (1 ∷ []) (utf16-answer.unitsToBytesOutcome units count (length bytes)) (bytesOfUnits (take count units)) bytes
+unfolding utf16-answer.unitsToBytesOutcome isOneOf
+units-to-bytes units count bytes =
+    answers _ (good-if _ _ _ (λ _. refl) (λ row. good-if _ _ _ (λ _. refl) (λ room. good-done _ refl
+    (omega (arith, length-bytesOfUnits (take count units), length-take-le count units (ltb-false (length units) count row), ltb-false (length bytes) (2 * count) room)))))
+
+bytes-to-units : (bytes units : List ℕ) → Answers (1 ∷ 12 ∷ []) (utf16-answer.bytesToUnitsOutcome bytes (length units)) (unitsOfBytes bytes) units
+unfolding utf16-answer.bytesToUnitsOutcome isOneOf
+bytes-to-units bytes units =
+    answers _ (good-if _ _ _ (λ _. refl) (λ room. good-if _ _ _ (λ _. refl) (λ _. good-done _ refl
+    (omega (arith, length-unitsOfBytes bytes, ltb-false (length units) (length bytes / 2) room)))))
+
+bytes-to-points : (bytes points : List ℕ) → Answers (12 ∷ 1 ∷ 10 ∷ []) (utf16-answer.bytesToPointsOutcome bytes (length points)) (pointsOf bytes) points
+unfolding utf16-answer.bytesToPointsOutcome utf16-answer.refusedUnpaired pointsOf isOneOf
+bytes-to-points bytes points =
+    answers _ (good-if _ _ _ (λ _. refl) (λ _. good-if _ _ _ (λ _. refl) (λ room. good-if _ _ _ (λ _. refl) (λ _. good-done _ refl
+    (omega (arith, length-toPoints (unitsOfBytes bytes), length-unitsOfBytes bytes, ltb-false (length points) (length bytes / 2) room))))))
 
 -- Base32
 base32-encode : (octets characters : List ℕ)
@@ -156,7 +181,7 @@ module _ {codes values : List ℕ} (capacity : ℕ) {next : Outcome} where
   label-good bytes one two three rest =
       good-if _ _ _ one (λ room. good-if _ _ _ two (λ _. good-if _ _ _ three (λ short. rest (ltb-false capacity 63 room) (ltb-false 63 bytes short))))
 
--- what they come to where nothing follows
+-- what they answer where nothing follows
 check-text : (capacity : ℕ) (t : List ℕ) → Listed (1 ∷ 2 ∷ 4 ∷ []) (textTests capacity t (done 0))
 unfolding isOneOf
 check-text capacity t = text-good {values = []} capacity t refl refl (λ _. refl) (λ _. good-done 0 refl (omega arith)) .listed
@@ -211,7 +236,7 @@ unfolding decodeCodes isOneOf
 scheme-decode Altdude label text = answers _ (altdude-decoded _ _ _ (λ _. refl) (λ _. refl) (λ _. refl) refl refl refl)
 scheme-decode Lace label text = answers _ (lace-decoded _ _ _ (λ _. refl) (λ _. refl) (λ _. refl) refl refl refl refl)
 
--- a label that stands in an entry
+-- a label in an entry
 own-listed : (s : Scheme) (l : List ℕ) → 1 ≤ length l → length l ≤ 63 → Listed tableCodes (scheme.decodeOutcome s 63 l)
 unfolding tableCodes isOneOf
 own-listed s l some short = by s
@@ -226,84 +251,65 @@ own-listed s l some short = by s
     by Altdude = altdude-decoded _ 63 l (λ e. absurd (true-not-false e refl)) (λ e. absurd (true-not-false e two)) (λ e. absurd (true-not-false e three)) refl refl refl .listed
     by Lace = lace-decoded _ 63 l (λ e. absurd (true-not-false e refl)) (λ e. absurd (true-not-false e two)) (λ e. absurd (true-not-false e three)) refl refl refl refl .listed
 
--- the verdict on an entry keeps the label's number, and that on the entries the entry's
-label-listed : {codes : List ℕ} (verdict : Outcome) (reader : ℕ) → Listed codes verdict → Listed codes (labelJudged verdict reader)
-unfolding labelJudged
-label-listed (done count) reader listed = listed-done reader
-label-listed (refused number position) reader listed = listed-refused number 0 (listed .oneOf number position refl)
+-- a refusal that is reported at another position keeps its number
+then-listed : {codes : List ℕ} (place : ℕ → ℕ) (outcome next : Outcome) → Listed codes outcome → Listed codes next → Listed codes (andThen place outcome next)
+unfolding andThen
+then-listed place (done count) next listed later = later
+then-listed place (refused number position) next listed later = listed-refused number (place position) (listed .oneOf number position refl)
 
-then-listed : {codes : List ℕ} (index : ℕ) (verdict next : Outcome) → Listed codes verdict → Listed codes next → Listed codes (thenEntries index verdict next)
-unfolding thenEntries
-then-listed index (done reader) next listed later = later
-then-listed index (refused number position) next listed later = listed-refused number index (listed .oneOf number position refl)
-
-entry-listed : (least : ℕ) (e : List ℕ) → length e ≡ 67 → Listed tableCodes (entryJudged least e)
-unfolding entryJudged tableCodes isOneOf
+entry-listed : (least : ℕ) (e : List ℕ) → length e ≡ entryLength → Listed tableCodes (entryJudged labelCapacity least e)
+unfolding entryJudged formTests tableCodes isOneOf
 entry-listed least e long =
     listed-if _ _ _ refl (λ _. listed-if _ _ _ refl (λ _. listed-if _ _ _ refl (λ sized. listed-if _ _ _ refl (λ _.
     let low = within-low 1 63 (lengthOf e) (not-false _ sized) in
     let high = within-high 1 63 (lengthOf e) (not-false _ sized) in
     let size = label-long e long high in
-    label-listed _ (readerOf e) (own-listed (schemeIn e) (labelIn e) (omega arith) (omega arith))))))
+    then-listed _ _ _ (own-listed (schemeIn e) (labelIn e) (omega arith) (omega arith)) (listed-done _)))))
 
-entries-listed : (index least left : ℕ) (bytes : List ℕ) (total : ℕ) → length bytes ≡ 67 * left → Listed tableCodes (entriesJudged index least left bytes total)
+entries-listed : (index least left : ℕ) (bytes : List ℕ) (total : ℕ) → length bytes ≡ entryLength * left → Listed tableCodes (entriesJudged index least left bytes total)
 unfolding entriesJudged
 entries-listed index least zero bytes total long = listed-done total
 entries-listed index least (suc left) bytes total long =
-    then-listed index _ _ (entry-listed least (take 67 bytes) (length-take-le 67 bytes (omega arith)))
+    then-listed _ _ _ (entry-listed least (take 67 bytes) (length-take-le 67 bytes (omega arith)))
     (entries-listed (suc index) (suc (readerOf bytes)) left (drop 67 bytes) total (omega (arith, length-drop 67 bytes)))
 
 table-read : (table : List ℕ) → Listed tableCodes (readOutcome table)
-unfolding readOutcome tableCodes isOneOf
+unfolding readOutcome headerTests lengthTests tableCodes isOneOf
 table-read t =
     listed-if _ _ _ refl (λ _. listed-if _ _ _ refl (λ _. listed-if _ _ _ refl (λ _. listed-if _ _ _ refl (λ _.
     listed-if _ _ _ refl (λ uncut. listed-if _ _ _ refl (λ unlong.
-    let least = ltb-false (length t) (3 + 67 * countOf t) uncut in
-    let most = ltb-false (3 + 67 * countOf t) (length t) unlong in
-    entries-listed 0 0 (countOf t) (drop 3 t) (countOf t) (omega (arith, length-drop 3 t))))))))
+    let least = ltb-false (length t) (tableLength (countOf t)) uncut in
+    let most = ltb-false (tableLength (countOf t)) (length t) unlong in
+    entries-listed 0 0 (countOf t) (drop headerLength t) (countOf t) (omega (arith, length-drop 3 t))))))))
 
 -- one entry
-one-more : (code number : ℕ) (codes : List ℕ) → isOneOf codes number ≡ true → isOneOf (code ∷ codes) number ≡ true
+with-one : (outcome : Outcome) → Listed tableCodes outcome → Listed (1 ∷ tableCodes) outcome
 unfolding isOneOf
-one-more code number codes e = rw e (cases (eqb code number) (λ c. rw c) (λ c. rw c))
+with-one outcome listed = record { oneOf = λ number position e. rw (listed .oneOf number position e) (cases (eqb 1 number) (λ c. rw c) (λ c. rw c)) }
 
-table-entry : (table : List ℕ) (index : ℕ) (text : List ℕ)
-    → Answers (1 ∷ tableCodes) (counted (findOutcome table index (length text))) (entryText table index) text
-unfolding findOutcome entryIn counted tableCodes isOneOf
-table-entry t index text = answers _ (record { listed = listed; counts = λ n e. let h = found-short t index (length text) n e in (found-count t index (length text) n e, omega arith) })
-  where
-    judged : (verdict : Outcome) → Listed tableCodes verdict → Listed (1 ∷ tableCodes) (counted (entryIn t index verdict))
-    judged (refused number position) listed = listed-refused number position (one-more 1 number tableCodes (listed .oneOf number position refl))
-    judged (done count) listed = cases (ltb index count) (λ c. rw c (listed-done _)) (λ c. rw c (listed-refused 14 0 refl))
+table-entry : (table : List ℕ) (index : ℕ) (text : List ℕ) → Answers (1 ∷ tableCodes) (findOutcome table index (length text)) (entryText table index) text
+unfolding findOutcome tableCodes isOneOf
+table-entry t index text =
+    answers _ (record {
+      listed = listed-if _ _ _ refl (λ _. then-listed _ _ _ (with-one _ (table-read t)) (listed-if _ _ _ refl (λ _. listed-done _)));
+      counts = entry-counts t index (length text);
+    })
 
-    listed : Listed (1 ∷ tableCodes) (counted (findOutcome t index (length text)))
-    listed = cases (ltb (length text) 63) (λ c. rw c (listed-refused 1 0 refl)) (λ c. rw c (judged (readOutcome t) (table-read t)))
-
--- texts as bytes
-bytes-to-units : (bytes units : List ℕ) → Answers (1 ∷ 12 ∷ []) (wire-answer.toUnitsOutcome bytes (length units)) (wire.toUnits bytes) units
-unfolding wire-answer.toUnitsOutcome isOneOf
-bytes-to-units bytes units =
-    answers _ (good-if _ _ _ (λ _. refl) (λ room. good-if _ _ _ (λ _. refl) (λ _. good-done _ refl
-    (omega (arith, wire-laws.length-toUnits bytes, ltb-false (length units) (length bytes / 2) room)))))
-
-units-to-bytes : (units : List ℕ) (count : ℕ) (bytes : List ℕ)
-    → Answers (1 ∷ []) (wire-answer.toBytesOutcome units count (length bytes)) (wire.toBytes (take count units)) bytes
-unfolding wire-answer.toBytesOutcome isOneOf
-units-to-bytes units count bytes =
-    answers _ (good-if _ _ _ (λ _. refl) (λ row. good-if _ _ _ (λ _. refl) (λ room. good-done _ refl
-    (omega (arith, wire-laws.length-toBytes (take count units), length-take-le count units (ltb-false (length units) count row), ltb-false (length bytes) (2 * count) room)))))
+table-judged-entry : (table : List ℕ) (index : ℕ) (text : List ℕ) → Answers (1 ∷ tableCodes) (judgedEntryOutcome table index (length text)) (entryText table index) text
+unfolding judgedEntryOutcome entryRead entryAt tableCodes isOneOf
+table-judged-entry t index text =
+    answers _ (record {
+      listed = listed-if _ _ _ refl (λ _. listed-if _ _ _ refl (λ _. listed-if _ _ _ refl (λ _. listed-if _ _ _ refl (λ uncut.
+          let least = ltb-false (length t) (tableLength (suc index)) uncut in
+          let long = length-take-le 67 (drop (tableLength index) t) (omega (arith, length-drop (tableLength index) t)) in
+          then-listed _ _ _ (with-one _ (entry-listed 0 (entryAt t index) long)) (listed-done _)))));
+      counts = judged-entry-counts t index (length text);
+    })
 
 -- lines
 put-line : (line out : List ℕ) → Answers (1 ∷ []) (lineOutcome line (length out)) line out
 unfolding lineOutcome isOneOf
 put-line line out = answers _ (good-if _ _ _ (λ _. refl) (λ room. good-done _ refl (ltb-false (length out) (length line) room)))
-
--- under a number, where the answers of each scheme are good
-known-good : {codes : List ℕ} {room : ℕ} (named : Named) (outcome : Scheme → Outcome) (made : Scheme → List ℕ) → isOneOf codes 11 ≡ true
-    → ((s : Scheme) → Good codes (outcome s) (made s) room) → Good codes (ifKnown named outcome) (madeBy named made) room
-unfolding ifKnown madeBy
-known-good Unknown outcome made eleven good = good-refused 11 0 eleven
-known-good (Known s) outcome made eleven good = good s
 
 -- units of which none is unpaired make points
 never-four : (units : List ℕ) → AllBelow 65536 units → ltb (utf16.firstUnpaired units) (length units) ≡ false
@@ -315,8 +321,8 @@ never-four units below paired =
     le-ltb (firstNotPoint ps) (length ps) (omega (arith, none-iff (length ps) (λ i. isPoint (getD ps i 0)) .1 (units-text units below e)))
 
 write-units : (s : Scheme) (capacity : ℕ) (units : List ℕ) → AllBelow 65536 units
-    → Good writeCodes (writeUnits s capacity units) (scheme.labelOf s (utf16.toPoints units)) capacity
-unfolding writeUnits writeCodes isOneOf
+    → Good writeCodes (utf16-answer.refusedUnpaired units (scheme.encodeOutcome s capacity (utf16.toPoints units))) (scheme.labelOf s (utf16.toPoints units)) capacity
+unfolding utf16-answer.refusedUnpaired writeCodes isOneOf
 write-units Altdude capacity units below =
     good-if _ _ _ (λ _. refl) (λ paired. altdude-encoded _ _ _ refl refl refl (λ e. absurd (true-not-false e (never-four units below paired))) refl)
 write-units Lace capacity units below =
@@ -326,21 +332,21 @@ firmware-write : (number : ℕ) (text label : List ℕ) → AllBelow 256 text
     → Answers writeCodes (writeOutcome number (length label) text) (writtenLabel number text) label
 unfolding writeOutcome writtenLabel writeBy pointsOf writeCodes isOneOf
 firmware-write number text label below =
-    answers _ (known-good (numberNames number) _ _ refl (λ s.
+    answers _ (good-if _ _ _ (λ _. refl) (λ _.
     good-if _ _ _ (λ _. refl) (λ _. good-if _ _ _ (λ _. refl) (λ _. good-if _ _ _ (λ _. refl) (λ _. good-if _ _ _ (λ _. refl) (λ _.
-    write-units s (length label) (wire.toUnits text) (wire-laws.units-below text below)))))))
+    write-units (schemeNamed (numberNames number)) (length label) (unitsOfBytes text) (below-unitsOfBytes text below)))))))
 
 -- a text of at most 63 points as bytes
 bytes-good : {codes : List ℕ} {room : ℕ} (outcome : Outcome) (text : List ℕ) → Good codes outcome text 63 → 252 ≤ room
-    → Good codes (inBytes (bytesOf text) outcome) (bytesOf text) room
-unfolding inBytes
+    → Good codes (andThen (λ p. p) outcome (done (length (bytesOf text)))) (bytesOf text) room
+unfolding andThen
 bytes-good (done n) text g room =
     let c = g .counts n refl in
-    good-done _ refl (omega (arith, bytes-few text (omega (arith, c .0, c .1))))
+    good-done _ refl (omega (arith, length-bytesOf text, c .0, c .1))
 bytes-good (refused number position) text g room = good-refused number position (g .listed .oneOf number position refl)
 
 read-label : (s : Scheme) (room : ℕ) (label : List ℕ) → 252 ≤ room
-    → Good readCodes (inBytes (bytesOf (scheme.textOf s label)) (scheme.decodeOutcome s 63 label)) (bytesOf (scheme.textOf s label)) room
+    → Good readCodes (andThen (λ p. p) (scheme.decodeOutcome s 63 label) (done (length (bytesOf (scheme.textOf s label))))) (bytesOf (scheme.textOf s label)) room
 unfolding readCodes isOneOf
 read-label Altdude room label h = bytes-good _ _ (altdude-decoded _ _ _ (λ _. refl) (λ _. refl) (λ _. refl) refl refl refl) h
 read-label Lace room label h = bytes-good _ _ (lace-decoded _ _ _ (λ _. refl) (λ _. refl) (λ _. refl) refl refl refl refl) h
@@ -349,9 +355,13 @@ firmware-read : (number : ℕ) (label text : List ℕ)
     → Answers readCodes (firmware.readOutcome number (length text) label) (readText number label) text
 unfolding firmware.readOutcome readText readBy readCodes isOneOf
 firmware-read number label text =
-    answers _ (known-good (numberNames number) _ _ refl (λ s. good-if _ _ _ (λ _. refl) (λ room. read-label s (length text) label (ltb-false (length text) 252 room))))
+    answers _ (good-if _ _ _ (λ _. refl) (λ _. good-if _ _ _ (λ _. refl) (λ room. read-label (schemeNamed (numberNames number)) (length text) label (ltb-false (length text) 252 room))))
 
--- what the one number tells
+-- a table that is cut
+cut-read : (t : List ℕ) → Cut t → readOutcome t ≡ refused 13 0
+cut-read t c = cut-table t (c .kind) (c .header) refl (c .some) (c .few) (c .short)
+
+-- what the one number says
 tells : (most : ℕ) (outcome : Outcome) → most < 1000 → ((n : ℕ) → outcome ≡ done n → 1 ≤ n) → basis.countOf outcome ≤ most → Tells most outcome
 unfolding answerOf basis.countOf
 tells most (done n) below some few = record { counts = λ h. (refl, omega (arith, some n refl), few); refuses = λ number e. absurd (omega arith) }
@@ -361,11 +371,20 @@ tells most (refused k p) below some few = record {
 }
 
 pub demand1 : Demand1
+unfolding naming.kindOf naming.numberOf rowOf
 demand1 = record {
   toUnits = to-units;
   toPoints = to-points;
+  pointsToBytes = points-to-bytes;
+  unitsToBytes = units-to-bytes;
+  bytesToUnits = bytes-to-units;
+  bytesToPoints = bytes-to-points;
   toUnitsOrder = to-units-settled;
   toPointsOrder = to-points-settled;
+  pointsToBytesOrder = points-to-bytes-settled;
+  unitsToBytesOrder = units-to-bytes-settled;
+  bytesToUnitsOrder = bytes-to-units-settled;
+  bytesToPointsOrder = bytes-to-points-settled;
   base32Encode = base32-encode;
   base32Decode = base32-decode;
   base32EncodeOrder = encode-settled;
@@ -380,20 +399,29 @@ demand1 = record {
   schemeDecode = scheme-decode;
   tableRead = table-read;
   tableEntry = table-entry;
+  tableJudgedEntry = table-judged-entry;
   tableReadOrder = read-settled;
   tableEntryOrder = find-settled;
-  bytesToUnits = bytes-to-units;
-  unitsToBytes = units-to-bytes;
+  tableJudgedEntryOrder = judged-entry-settled;
+  tableJudgedEntryAgrees = λ t n index capacity read. judged-as-found t n read index capacity;
+  unknownKinds = λ e. (
+    λ u. let altdude : kindOf e ≡ 0x41 → ⊥ = u Altdude in let lace : kindOf e ≡ 0x4c → ⊥ = u Lace in (λ k. omega arith, λ k. omega arith),
+    λ d. by-scheme (λ s. kindOf e ≡ naming.kindOf s → ⊥) (d .0) (d .1),
+  );
   write = firmware-write;
   writeTells = λ number capacity text. tells _ _ (omega arith) (written-some number capacity text) (omega (arith, write-few number capacity text));
   read = firmware-read;
   readTells = λ number capacity label. tells _ _ (omega arith) (read-some number capacity label) (omega (arith, read-few number capacity label));
+  unknownNumbers = λ number. (
+    λ u. let zero : number ≡ 0 → ⊥ = u .0 in let altdude : number ≡ 1 → ⊥ = u .1 Altdude in let lace : number ≡ 2 → ⊥ = u .1 Lace in omega arith,
+    λ h. (λ e. omega arith, by-scheme (λ s. number ≡ naming.numberOf s → ⊥) (λ e. omega arith) (λ e. omega arith)),
+  );
   listLines = λ reader letter points. put-line (listLine reader letter points);
   pointsLines = λ points. put-line (pointsLine points);
   refusedAtLines = λ code position. put-line (refusedAtLine code position);
   refusedLines = λ code. put-line (refusedLine code);
-  cutRead = λ t c. truncated t (c .kind) (c .header) (within-true 1 500 (countOf t) (c .some) (c .few)) (omega (arith, c .short));
-  cutEntry = λ t c. truncated-entry t (c .kind) (c .header) (within-true 1 500 (countOf t) (c .some) (c .few)) (omega (arith, c .short));
-  prefixRead = prefix-truncated;
-  prefixEntry = prefix-truncated-entry;
+  cutRead = cut-read;
+  cutEntry = λ t c index capacity room. find-refused t index capacity room (cut-read t c);
+  prefixRead = λ t n k e h. prefix-truncated t n k e (omega (arith, h));
+  prefixEntry = λ t n k e h index capacity room. find-refused (take k t) index capacity room (prefix-truncated t n k e h);
 }

@@ -9,13 +9,12 @@ use Rattle.basis.specs.Tests.{both}
 use Rattle.basis.proofs.Tests.{true-not-false, both-left, both-right}
 use Rattle.basis.specs.Rows.{tabulate}
 use Rattle.utf16.specs.Units.{unitsOf, toUnits}
+use Rattle.utf16.specs.Bytes.{bytesOfUnits}
 use Rattle.base32.specs.Alphabet as alphabet
 use Rattle.base32.specs.Bits.{bitOf, fromBits, rowBit, group, regroup}
 use Rattle.base32.specs.Base32.{toQuintets, charactersOf}
 use Rattle.altdude.specs.Symbols.{byteOf}
 use Rattle.altdude.specs.Encoding as altdude
-use Rattle.lace.specs.Prefix.{prefix}
-use Rattle.wire.specs.Bytes.{toBytes}
 use Rattle.lace.specs.Encoding as lace
 use Rattle.claims.specs.KnownLabels.{Cell, altdudeCell, laceCell, Spells, AllSpell, knownLabels, KnownLabels}
 
@@ -54,7 +53,7 @@ all-hold-spell (cell ∷ cells) e = (holds-spells cell (both-left _ _ e), all-ho
 
 -- the computed test
 known-hold : allHold knownLabels ≡ true
-unfolding allHold knownLabels holds same both altdude.labelOf altdude.symbolsFrom altdude.itemOf altdude.groupOf altdude.leadingDigits altdude.rememberedAfter byteOf alphabet.characterOf alphabet.altdude lace.labelOf lace.octetsOf lace.longestRuns lace.joinRun prefix lace.runOctets toBytes toUnits unitsOf charactersOf toQuintets tabulate regroup group fromBits rowBit bitOf alphabet.lace
+unfolding allHold knownLabels holds same both altdude.labelOf altdude.symbolsFrom altdude.itemOf altdude.groupOf altdude.leadingDigits altdude.rememberedAfter byteOf alphabet.characterOf alphabet.altdude lace.labelOf lace.octetsOf lace.longestRuns lace.joinRun lace.runOctets bytesOfUnits toUnits unitsOf charactersOf toQuintets tabulate regroup group fromBits rowBit bitOf alphabet.lace
 known-hold = refl
 
 pub known-labels : KnownLabels

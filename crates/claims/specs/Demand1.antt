@@ -1,19 +1,22 @@
--- Demand 1: what every entry answers and leaves, whatever it is given, and that a table that is cut is refused as cut. The outcomes and
+-- Demand 1: what every public function answers and leaves, whatever it is given, and that a table that is cut is refused as cut. The outcomes and
 -- the values are the definitions that the contracts cite. The order of the refusals is that of their tests; by causes it is said of the
--- converter, of Base32 and of the table here, and of the schemes and the C interface in demand 2. That a call ends and stays inside what
--- it was lent is what the checker proves of each function.
+-- conversions, of Base32 and of the table here, and of the schemes and the C interface in demand 2. That a call ends and stays inside what
+-- it was passed is what the checker proves of each function.
 use Prim.Native.Nat.{ℕ, _+_, _*_, _≤_, _<_}
 use mathlib.Core.Path.{_≡_}
 use mathlib.Core.Bool.{Bool, true, false, _||_}
+use mathlib.Core.Logic.{_↔_}
 use mathlib.Core.List.{List, [], _∷_}
 use lib.Dec.{eqb}
 use lib.ListN.{length, take, drop}
 use Rattle.basis.specs.Rows.{at, AllBelow}
 use Rattle.basis.specs.Outcome.{Outcome, done, refused, countOf, bufferAfter}
 use Rattle.basis.specs.Causes.{Settles}
+use Rattle.ascii.specs.Ldh.{isAllLdh}
 use Rattle.utf16.specs.Units as utf16
+use Rattle.utf16.specs.Bytes.{unitsOfBytes, bytesOfUnits, pointsOf, bytesOf}
 use Rattle.utf16.specs.Answer as utf16-answer
-use Rattle.utf16.specs.Causes.{toUnitsCauses, toPointsCauses}
+use Rattle.utf16.specs.Causes.{toUnitsCauses, toPointsCauses, pointsToBytesCauses, unitsToBytesCauses, bytesToUnitsCauses, bytesToPointsCauses}
 use Rattle.base32.specs.Alphabet as alphabet
 use Rattle.base32.specs.Form.{octetCount}
 use Rattle.base32.specs.Base32.{quintetCount, charactersOf, toOctets}
@@ -23,7 +26,6 @@ use Rattle.labels.specs.Tests.{textTests, labelTests}
 use Rattle.altdude.specs.Encoding as altdude-encoding
 use Rattle.altdude.specs.Decoding as altdude-decoding
 use Rattle.altdude.specs.Answer as altdude
-use Rattle.lace.specs.Octets.{isAllLdh}
 use Rattle.lace.specs.Encoding as lace-encoding
 use Rattle.lace.specs.Decoding as lace-decoding
 use Rattle.lace.specs.Answer as lace
@@ -31,12 +33,11 @@ use Rattle.scheme.specs.declared.Scheme.{Scheme}
 use Rattle.scheme.specs.declared.Scheme.the-variants.{Altdude, Lace}
 use Rattle.scheme.specs.Coding as scheme
 use Rattle.nametable.specs.Format as nametable
-use Rattle.nametable.specs.Answer.{readOutcome, notFound, findOutcome, counted, entryText}
-use Rattle.nametable.specs.Causes.{tableCauses, findCauses}
-use Rattle.wire.specs.Bytes as wire
-use Rattle.wire.specs.Answer as wire-answer
+use Rattle.nametable.specs.Answer.{readOutcome, findOutcome, judgedEntryOutcome, entryText}
+use Rattle.nametable_facts.specs.Causes.{UnknownKind, tableCauses, findCauses, judgedEntryCauses}
 use Rattle.firmware.specs.Answer.{answerOf, writeOutcome, writtenLabel, readText}
 use Rattle.firmware.specs.Answer as firmware
+use Rattle.firmware.specs.Causes.{UnknownNumber}
 use Rattle.report.specs.Lines.{listLine, pointsLine, refusedAtLine, refusedLine}
 use Rattle.report.specs.Answer.{lineOutcome}
 
@@ -49,20 +50,20 @@ isOneOf (code ∷ codes) number = eqb code number || isOneOf codes number
 pub record Listed (codes : List ℕ) (outcome : Outcome) : Type 0 where
   pub oneOf : (number position : ℕ) → outcome ≡ refused number position → isOneOf codes number ≡ true
 
--- an entry with this outcome, that writes these values into this buffer
+-- a function with this outcome, that writes these values into this buffer
 pub record Answers (codes : List ℕ) (outcome : Outcome) (values buffer : List ℕ) : Type 0 where
   -- it is done, or refuses with one of the codes
   pub listed : Listed codes outcome
   -- a refusal writes nothing
   pub untouched : (number position : ℕ) → outcome ≡ refused number position → bufferAfter outcome values buffer ≡ buffer
-  -- if it is done, the values stand before the count
+  -- if it is done, the values are before the count
   pub written : (count : ℕ) → outcome ≡ done count → take count (bufferAfter outcome values buffer) ≡ values
   -- the count, 0 of a refusal, is within the buffer, which is as long as before, and nothing changes from the count on
   pub within : countOf outcome ≤ length buffer
   pub asLong : length (bufferAfter outcome values buffer) ≡ length buffer
   pub unchanged : drop (countOf outcome) (bufferAfter outcome values buffer) ≡ drop (countOf outcome) buffer
 
--- the one number of an outcome tells which it is: below 1000 a count, 1 to this one, and else 1000 plus the refusal's number
+-- the one number of an outcome says which it is: below 1000 a count, 1 to this one, and else 1000 plus the refusal's number
 pub record Tells (most : ℕ) (outcome : Outcome) : Type 0 where
   pub counts : answerOf outcome < 1000 → (outcome ≡ done (answerOf outcome)) × (1 ≤ answerOf outcome) × (answerOf outcome ≤ most)
   pub refuses : (number : ℕ) → answerOf outcome ≡ 1000 + number → (position : ℕ) × (outcome ≡ refused number position)
@@ -95,18 +96,34 @@ pub record Cut (table : List ℕ) : Type 0 where
   pub few : nametable.countOf table ≤ 500
   pub short : length table < 3 + 67 * nametable.countOf table
 
--- every entry by name
+-- every public function that can refuse, by name
 pub record Demand1 : Type 0 where
   -- utf16
   pub toUnits : (points : List ℕ) (count : ℕ) (units : List ℕ)
       → Answers (1 ∷ 4 ∷ []) (utf16-answer.toUnitsOutcome points count (length units)) (utf16.toUnits (take count points)) units
   pub toPoints : (units : List ℕ) (count : ℕ) (points : List ℕ)
       → Answers (1 ∷ 10 ∷ []) (utf16-answer.toPointsOutcome units count (length points)) (utf16.toPoints (take count units)) points
-  -- its order: 1, then 4 or 10
+  pub pointsToBytes : (points : List ℕ) (count : ℕ) (bytes : List ℕ)
+      → Answers (1 ∷ 4 ∷ []) (utf16-answer.pointsToBytesOutcome points count (length bytes)) (bytesOf (take count points)) bytes
+  pub unitsToBytes : (units : List ℕ) (count : ℕ) (bytes : List ℕ)
+      → Answers (1 ∷ []) (utf16-answer.unitsToBytesOutcome units count (length bytes)) (bytesOfUnits (take count units)) bytes
+  pub bytesToUnits : (bytes units : List ℕ)
+      → Answers (1 ∷ 12 ∷ []) (utf16-answer.bytesToUnitsOutcome bytes (length units)) (unitsOfBytes bytes) units
+  pub bytesToPoints : (bytes points : List ℕ)
+      → Answers (12 ∷ 1 ∷ 10 ∷ []) (utf16-answer.bytesToPointsOutcome bytes (length points)) (pointsOf bytes) points
+  -- its order: 1, then 4, 10 or 12; of bytes to points 12 first
   pub toUnitsOrder : (points : List ℕ) (count capacity : ℕ)
       → Settles (toUnitsCauses points count capacity) (length (utf16.toUnits (take count points))) (utf16-answer.toUnitsOutcome points count capacity)
   pub toPointsOrder : (units : List ℕ) (count capacity : ℕ)
       → Settles (toPointsCauses units count capacity) (length (utf16.toPoints (take count units))) (utf16-answer.toPointsOutcome units count capacity)
+  pub pointsToBytesOrder : (points : List ℕ) (count capacity : ℕ)
+      → Settles (pointsToBytesCauses points count capacity) (length (bytesOf (take count points))) (utf16-answer.pointsToBytesOutcome points count capacity)
+  pub unitsToBytesOrder : (units : List ℕ) (count capacity : ℕ)
+      → Settles (unitsToBytesCauses units count capacity) (length (bytesOfUnits (take count units))) (utf16-answer.unitsToBytesOutcome units count capacity)
+  pub bytesToUnitsOrder : (bytes : List ℕ) (capacity : ℕ)
+      → Settles (bytesToUnitsCauses bytes capacity) (length (unitsOfBytes bytes)) (utf16-answer.bytesToUnitsOutcome bytes capacity)
+  pub bytesToPointsOrder : (bytes : List ℕ) (capacity : ℕ)
+      → Settles (bytesToPointsCauses bytes capacity) (length (pointsOf bytes)) (utf16-answer.bytesToPointsOutcome bytes capacity)
   -- base32
   pub base32Encode : (octets characters : List ℕ)
       → Answers (1 ∷ []) (base32.encodeOutcome octets (length characters)) (charactersOf alphabet.lace octets) characters
@@ -116,7 +133,7 @@ pub record Demand1 : Type 0 where
   pub base32EncodeOrder : (octets : List ℕ) (capacity : ℕ) → Settles (encodeCauses octets capacity) (quintetCount (length octets)) (base32.encodeOutcome octets capacity)
   pub base32DecodeOrder : (characters : List ℕ) (capacity : ℕ)
       → Settles (decodeCauses characters capacity) (octetCount (length characters)) (base32.decodeOutcome characters capacity)
-  -- labels: what the first tests come to where nothing follows
+  -- labels: what the first tests answer where nothing follows
   pub checkText : (capacity : ℕ) (text : List ℕ) → Listed (1 ∷ 2 ∷ 4 ∷ []) (textTests capacity text (done 0))
   pub checkLabel : (capacity bytes : ℕ) → Listed (1 ∷ 2 ∷ 3 ∷ []) (labelTests capacity bytes (done 0))
   -- altdude, lace, and by scheme
@@ -132,19 +149,24 @@ pub record Demand1 : Type 0 where
       → Answers (encodeCodes s) (scheme.encodeOutcome s (length label) text) (scheme.labelOf s text) label
   pub schemeDecode : (s : Scheme) (label text : List ℕ)
       → Answers (decodeCodes s) (scheme.decodeOutcome s (length text) label) (scheme.textOf s label) text
-  -- nametable: `read` is lent no buffer to write
+  -- nametable: `read` is passed no buffer to write
   pub tableRead : (table : List ℕ) → Listed tableCodes (readOutcome table)
   pub tableEntry : (table : List ℕ) (index : ℕ) (text : List ℕ)
-      → Answers (1 ∷ tableCodes) (counted (findOutcome table index (length text))) (entryText table index) text
+      → Answers (1 ∷ tableCodes) (findOutcome table index (length text)) (entryText table index) text
+  pub tableJudgedEntry : (table : List ℕ) (index : ℕ) (text : List ℕ)
+      → Answers (1 ∷ tableCodes) (judgedEntryOutcome table index (length text)) (entryText table index) text
   -- its order: the header's, then entry by entry, and for one entry 1 before and the index after
   pub tableReadOrder : (table : List ℕ) → Settles (tableCauses table) (nametable.countOf table) (readOutcome table)
   pub tableEntryOrder : (table : List ℕ) (index capacity : ℕ)
-      → Settles (findCauses table index capacity) (length (entryText table index)) (counted (findOutcome table index capacity))
-  -- wire
-  pub bytesToUnits : (bytes units : List ℕ)
-      → Answers (1 ∷ 12 ∷ []) (wire-answer.toUnitsOutcome bytes (length units)) (wire.toUnits bytes) units
-  pub unitsToBytes : (units : List ℕ) (count : ℕ) (bytes : List ℕ)
-      → Answers (1 ∷ []) (wire-answer.toBytesOutcome units count (length bytes)) (wire.toBytes (take count units)) bytes
+      → Settles (findCauses table index capacity) (length (entryText table index)) (findOutcome table index capacity)
+  -- of a table that was judged: 1, the header, the index, the length, then the entry's own
+  pub tableJudgedEntryOrder : (table : List ℕ) (index capacity : ℕ)
+      → Settles (judgedEntryCauses table index capacity) (length (entryText table index)) (judgedEntryOutcome table index capacity)
+  -- which answers as `entry` does if the table reads whole
+  pub tableJudgedEntryAgrees : (table : List ℕ) (count index capacity : ℕ) → readOutcome table ≡ done count
+      → judgedEntryOutcome table index capacity ≡ findOutcome table index capacity
+  -- the kind of an entry is no scheme's exactly if it is neither 41 nor 4C hex
+  pub unknownKinds : (entry : List ℕ) → UnknownKind entry ↔ ((nametable.kindOf entry ≡ 0x41 → ⊥) × (nametable.kindOf entry ≡ 0x4c → ⊥))
   -- firmware: what is left, and what the number says
   pub write : (number : ℕ) (text label : List ℕ) → AllBelow 256 text
       → Answers writeCodes (writeOutcome number (length label) text) (writtenLabel number text) label
@@ -152,6 +174,8 @@ pub record Demand1 : Type 0 where
   pub read : (number : ℕ) (label text : List ℕ)
       → Answers readCodes (firmware.readOutcome number (length text) label) (readText number label) text
   pub readTells : (number capacity : ℕ) (label : List ℕ) → Tells 252 (firmware.readOutcome number capacity label)
+  -- a number is neither 0 nor any scheme's exactly if it is over 2
+  pub unknownNumbers : (number : ℕ) → UnknownNumber number ↔ (2 < number)
   -- report
   pub listLines : (reader letter : ℕ) (points out : List ℕ)
       → Answers (1 ∷ []) (lineOutcome (listLine reader letter points) (length out)) (listLine reader letter points) out
@@ -161,8 +185,8 @@ pub record Demand1 : Type 0 where
   pub refusedLines : (code : ℕ) (out : List ℕ) → Answers (1 ∷ []) (lineOutcome (refusedLine code) (length out)) (refusedLine code) out
   -- a table that is cut is 13, from `read`, and from `entry` at any index, given the room
   pub cutRead : (table : List ℕ) → Cut table → readOutcome table ≡ refused 13 0
-  pub cutEntry : (table : List ℕ) → Cut table → (index capacity : ℕ) → 63 ≤ capacity → findOutcome table index capacity ≡ notFound 13 0
+  pub cutEntry : (table : List ℕ) → Cut table → (index capacity : ℕ) → 63 ≤ capacity → findOutcome table index capacity ≡ refused 13 0
   -- and so is a whole table that is cut at any byte before its end
   pub prefixRead : (table : List ℕ) (count k : ℕ) → readOutcome table ≡ done count → k < length table → readOutcome (take k table) ≡ refused 13 0
   pub prefixEntry : (table : List ℕ) (count k : ℕ) → readOutcome table ≡ done count → k < length table
-      → (index capacity : ℕ) → 63 ≤ capacity → findOutcome (take k table) index capacity ≡ notFound 13 0
+      → (index capacity : ℕ) → 63 ≤ capacity → findOutcome (take k table) index capacity ≡ refused 13 0

@@ -6,19 +6,19 @@ use mathlib.Core.Logic.{_↔_}
 use mathlib.Core.List.{List, _∷_}
 use lib.ListN.{length, take}
 use Rattle.basis.specs.Rows.{AllBelow}
-use Rattle.basis.specs.Case.{SameButCase}
 use Rattle.basis.specs.Causes.{whole, NoCause, Settles}
 use Rattle.basis.specs.Outcome.{Outcome, done, bufferAfter}
 use Rattle.basis.specs.Codec.{Codec, Writable}
+use Rattle.ascii.specs.Case.{SameButCase}
 use Rattle.altdude_facts.specs.WellFormed as altdude-form
 use Rattle.altdude_facts.specs.Codec as altdude
 use Rattle.lace_facts.specs.WellFormed as lace-form
 use Rattle.lace_facts.specs.Codec as lace
-use Rattle.scheme.specs.Naming.{numberNames}
+use Rattle.scheme.specs.Naming.{numberNames, schemeNamed}
 use Rattle.firmware.specs.Answer.{writeOutcome, writtenLabel, readOutcome, readText}
-use Rattle.firmware.specs.Causes.{UnknownNumber, causesBy, bytesCauses, writeCauses, readCauses}
+use Rattle.firmware.specs.Causes.{UnknownNumber, bytesCauses, writeCauses, readCauses}
 
--- an entry with this outcome, which puts these values into the buffer, is done, and this row is before its count afterwards
+-- a function with this outcome, which puts these values into the buffer, is done, and this row is before its count afterwards
 pub record Leaves (outcome : Outcome) (values buffer row : List ℕ) : Type 0 where
   pub count : ℕ
   pub answers : outcome ≡ done count
@@ -71,9 +71,9 @@ WritesBytes number buffer bytes l = Leaves (writeOutcome number (length buffer) 
 abbrev pub ReadsBytes : ℕ → List ℕ → List ℕ → List ℕ → Type 0
 ReadsBytes number buffer l bytes = Leaves (readOutcome number (length buffer) l) (readText number l) buffer bytes
 
--- a text of bytes may be written under a number: no cause, capacity aside, stands against it
+-- a text of bytes may be written under a number: no cause against it holds, capacity aside
 abbrev pub MayWrite : ℕ → List ℕ → Type 0
-MayWrite number bytes = NoCause (whole 11 (UnknownNumber number) ∷ causesBy (numberNames number) (λ s. bytesCauses s bytes))
+MayWrite number bytes = NoCause (whole 11 (UnknownNumber number) ∷ bytesCauses (schemeNamed (numberNames number)) bytes)
 
 -- demand 2 at the C interface, for the same sentences
 pub record Demand2AtInterface : Type 0 where

@@ -1,4 +1,4 @@
--- The starred cells of the scope paper's known spellings: one table, and the equations that it stands for.
+-- The starred cells of the scope paper's known spellings: one table, and the equations that it means.
 use Prim.Native.Nat.{ℕ}
 use mathlib.Core.Path.{_≡_}
 use mathlib.Core.List.{List, [], _∷_}

@@ -1,30 +1,39 @@
--- Laws on the scheme number: an unknown one is refused, a known one names the scheme that answers.
+-- Laws on the scheme number: the first test of both functions, and which numbers it refuses.
 use Prim.Native.Nat.{ℕ}
 use mathlib.Core.Path.{_≡_}
-use mathlib.Core.List.{List}
-use Rattle.basis.specs.Outcome.{Outcome, bytesOutcome, bufferAfter}
-use Rattle.basis.specs.declared.ErrorCode.the-variants.{UnknownScheme}
-use Rattle.basis.specs.declared.BytesAnswer.{BytesAnswer}
-use Rattle.basis.specs.declared.BytesAnswer.the-variants.{Error}
-use Rattle.scheme.specs.Naming.{numberNames}
+use mathlib.Core.Bool.{true, not}
+use mathlib.Core.Logic.{_↔_}
+use lib.Dec.{eqb}
+use borrow.Author.Tests.{eqb-true, eqb-false, not-true}
+use Rattle.basis.specs.Outcome.{Outcome, refused, refusedIf}
+use Rattle.basis.proofs.Tests.{cases, true-not-false}
+use Rattle.basis.proofs.Outcome.{stop-if, pass-if}
+use Rattle.scheme.specs.Naming.{numberOf, ownNumberNames, numberNames, isKnown, schemeNamed}
 use Rattle.scheme.specs.declared.Scheme.{Scheme}
 use Rattle.scheme.specs.declared.Named.{Named}
 use Rattle.scheme.specs.declared.Named.the-variants.{Known, Unknown}
-use Rattle.firmware.specs.Answer.{ifKnown, madeBy}
+use Rattle.scheme.proofs.Naming.{names-none-iff, zero-known}
+use Rattle.firmware.specs.Causes.{UnknownNumber}
 
--- an unknown number is told, and leaves the buffer
-module _ (number : ℕ) (outcome : Scheme → Outcome) {named : Named} where
-  pub unknown-answered : {answer : BytesAnswer} → named ≡ numberNames number → named ≡ Unknown → answer ≡ Error UnknownScheme 0 → bytesOutcome answer ≡ ifKnown (numberNames number) outcome
-  unfolding bytesOutcome ifKnown
-  unknown-answered names unknown a = rw (a, ← names, unknown)
+-- what a number names, by the directory's answer
+module _ (number : ℕ) (named : Named) (is : named ≡ numberNames number) where
+  pub stop-unknown : (next : Outcome) → named ≡ Unknown → refusedIf (not (isKnown (numberNames number))) 11 0 next ≡ refused 11 0
+  unfolding isKnown
+  stop-unknown next e = stop-if 11 0 next _ (rw (← is, e))
 
-  pub unknown-left : (values buffer : List ℕ) → named ≡ numberNames number → named ≡ Unknown → buffer ≡ bufferAfter (ifKnown (numberNames number) outcome) values buffer
-  unfolding ifKnown bufferAfter
-  unknown-left values buffer names unknown = rw (← names, unknown)
+  pub pass-known : (next : Outcome) (s : Scheme) → named ≡ Known s → refusedIf (not (isKnown (numberNames number))) 11 0 next ≡ next
+  unfolding isKnown
+  pass-known next s e = pass-if 11 0 next _ (rw (← is, e))
 
--- a known one answers as its scheme does
-module _ (named : Named) (outcome : Scheme → Outcome) (made : Scheme → List ℕ) (buffer : List ℕ) where
-  pub known-made : (s : Scheme) → named ≡ Known s → (answer : Outcome) (now : List ℕ) → answer ≡ outcome s → now ≡ bufferAfter (outcome s) (made s) buffer
-      → (answer ≡ ifKnown named outcome) × (now ≡ bufferAfter (ifKnown named outcome) (madeBy named made) buffer)
-  unfolding ifKnown madeBy
-  known-made s e answer now a b = rw e (a, b)
+  pub known-is : (s : Scheme) → named ≡ Known s → s ≡ schemeNamed (numberNames number)
+  unfolding schemeNamed
+  known-is s e = rw (← is, e)
+
+-- the test refuses exactly the numbers that are neither 0 nor any scheme's
+pub unknown-iff : (number : ℕ) → (not (isKnown (numberNames number)) ≡ true) ↔ UnknownNumber number
+unfolding numberNames ownNumberNames
+unknown-iff number =
+    let own = names-none-iff numberOf number in
+    cases (eqb number 0)
+    (λ z. let is = eqb-true number 0 z in (λ e. absurd (true-not-false zero-known (not-true _ (rw is at e))), λ u. absurd (u .0 is)))
+    (λ z. (λ e. (eqb-false number 0 z, own .0 (rw z at e)), λ u. rw z (own .1 (u .1))))

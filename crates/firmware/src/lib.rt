@@ -9,6 +9,18 @@ ghost use lib.ListN.{length};
 ghost use Rattle.basis.specs.Outcome.{countOf, bytesOutcome, bufferAfter};
 ghost use Rattle.firmware.specs.Answer.{answerOf, writeOutcome, writtenLabel, readOutcome, readText};
 
+// The bytes that a label has at most, which is also the points that its text has at most.
+pub const LABEL_BYTES: usize = 63;
+
+// The bytes that a text has at most.
+pub const TEXT_BYTES: usize = 252;
+
+// The points that so many bytes make at most.
+pub const TEXT_POINTS: usize = 126;
+
+// What is added to the number of an error.
+pub const REFUSED: u32 = 1000;
+
 // The one number of an answer: the bytes written, or 1000 plus the error's number.
 fn answer_number(answer: BytesAnswer) -> u32
     requires { ⌜ countOf (bytesOutcome answer) ≤ 252 ⌝ }
@@ -16,7 +28,7 @@ fn answer_number(answer: BytesAnswer) -> u32
 {
     match answer {
         BytesAnswer::Bytes(count) => count.0 as u32,
-        BytesAnswer::Error { code, position: _ } => 1000 + basis::code_number(code),
+        BytesAnswer::Error { code, position: _ } => REFUSED + basis::code_number(code),
     }
 }
 

@@ -1,4 +1,4 @@
--- Laws on the shared causes: what a text or a label has against which they do not stand.
+-- Laws on the shared causes: what a text or a label has where none of them holds.
 use Prim.Native.Nat.{ℕ, _≤_}
 use mathlib.Core.Path.{_≡_, refl, ap}
 use mathlib.Core.Bool.{true, not}
@@ -26,7 +26,7 @@ pub record TextAndLabel (t label : List ℕ) : Type 0 where
   pub text : isText t ≡ true
   pub short : length label ≤ 63
 
--- a text may be written exactly if it is one, its label is short, and the scheme's own cause does not stand
+-- a text may be written exactly if it is one, its label is short, and the scheme's own cause does not hold
 pub writable-iff : (own : Cause) (t label : List ℕ) → NoCause (textCauses t (own ∷ whole 3 (TooLong label) ∷ [])) ↔ (TextAndLabel t label × Absent own)
 writable-iff own t label = (
   λ n. (record { some = some-iff t .0 (n .0); text = points-text t (n .1 .0); short = short-iff label .0 (n .1 .1 .1 .0) }, n .1 .1 .0),

@@ -1,4 +1,4 @@
--- Laws on the first tests: a check says what they come to, and the shared causes settle them.
+-- Laws on the first tests: a check says what they say, and the shared causes settle them.
 use Prim.Native.Nat.{ℕ, _≤_, _<_}
 use mathlib.Core.Path.{_≡_, sym, ap, _∙_}
 use mathlib.Core.Bool.{not}
@@ -7,7 +7,7 @@ use lib.ListN.{length}
 use borrow.Author.Tests.{ltb-false, eqb-false}
 use native.Mathlib.Omega.{arith}
 use Rattle.basis.specs.Rows.{at}
-use Rattle.basis.specs.Outcome.{Outcome, done, refused, numberOf}
+use Rattle.basis.specs.Outcome.{Outcome, done, refused, numberOf, andThen}
 use Rattle.basis.specs.Causes.{Cause, whole, Settles}
 use Rattle.basis.specs.declared.ErrorCode.{ErrorCode}
 use Rattle.basis.proofs.Tests.{ltb-iff, eqb-iff, first-le}
@@ -15,20 +15,20 @@ use Rattle.basis.proofs.Outcome.{stop-below, pass-below, pass-equal, passed}
 use Rattle.basis.proofs.Causes.{settle-whole, settle-first}
 use Rattle.utf16.specs.Points.{isPoint, firstNotPoint}
 use Rattle.labels.specs.Tests.{textTests, labelTests}
-use Rattle.labels.specs.Answer.{thenOutcome}
+use Rattle.labels.specs.Answer.{checkOutcome}
 use Rattle.labels.specs.Causes.{textCauses, labelCauses}
 use Rattle.labels.specs.declared.Check.{Check}
 use Rattle.labels.specs.declared.Check.the-variants.{Passed, Error}
 
 -- tests that a check answers for: by its answer they refuse whatever follows, or what follows decides
-module _ (tests : Outcome → Outcome) (check : Check) (means : (next : Outcome) → thenOutcome check next ≡ tests next) (next : Outcome) where
+module _ (tests : Outcome → Outcome) (check : Check) (means : (next : Outcome) → andThen (λ p. p) (checkOutcome check) next ≡ tests next) (next : Outcome) where
   pub check-stops : (code : ErrorCode) (position : ℕ) → check ≡ Error code position → tests next ≡ refused (numberOf code) position
-  unfolding thenOutcome
-  check-stops code position e = sym (means next) ∙ ap (λ c. thenOutcome c next) e
+  unfolding andThen checkOutcome
+  check-stops code position e = sym (means next) ∙ ap (λ c. andThen (λ p. p) (checkOutcome c) next) e
 
   pub check-passes : check ≡ Passed → tests next ≡ next
-  unfolding thenOutcome
-  check-passes e = sym (means next) ∙ ap (λ c. thenOutcome c next) e
+  unfolding andThen checkOutcome
+  check-passes e = sym (means next) ∙ ap (λ c. andThen (λ p. p) (checkOutcome c) next) e
 
 -- what a text has that passes them, and a label
 pub record TextPassed (capacity : ℕ) (t : List ℕ) : Type 0 where
@@ -75,10 +75,10 @@ label-long capacity bytes next room long =
 
 -- so it is with what was checked
 module _ (check : Check) (is : check ≡ Passed) where
-  pub text-checked : (capacity : ℕ) (t : List ℕ) → ((next : Outcome) → thenOutcome check next ≡ textTests capacity t next) → TextPassed capacity t
+  pub text-checked : (capacity : ℕ) (t : List ℕ) → ((next : Outcome) → andThen (λ p. p) (checkOutcome check) next ≡ textTests capacity t next) → TextPassed capacity t
   text-checked capacity t means = text-passed capacity t 0 (done 0) (check-passes (textTests capacity t) check means (done 0) is)
 
-  pub label-checked : (capacity bytes : ℕ) → ((next : Outcome) → thenOutcome check next ≡ labelTests capacity bytes next) → LabelPassed capacity bytes
+  pub label-checked : (capacity bytes : ℕ) → ((next : Outcome) → andThen (λ p. p) (checkOutcome check) next ≡ labelTests capacity bytes next) → LabelPassed capacity bytes
   label-checked capacity bytes means = label-passed capacity bytes 0 (done 0) (check-passes (labelTests capacity bytes) check means (done 0) is)
 
 -- 1, and the shared causes, before those that settle what follows

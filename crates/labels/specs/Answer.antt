@@ -1,9 +1,9 @@
--- What a check comes to, before what follows.
-use Rattle.basis.specs.Outcome.{Outcome, refused, numberOf}
+-- What a check says, as an outcome.
+use Rattle.basis.specs.Outcome.{Outcome, done, refused, numberOf}
 use Rattle.labels.specs.declared.Check.{Check}
 use Rattle.labels.specs.declared.Check.the-variants.{Passed, Error}
 
--- what follows, or the refusal with the error's number and position
-unfoldable pub thenOutcome : Check → Outcome → Outcome
-thenOutcome Passed next = next
-thenOutcome (Error code position) next = refused (numberOf code) position
+-- done, with nothing to count, or refused with the error's number and position
+unfoldable pub checkOutcome : Check → Outcome
+checkOutcome Passed = done 0
+checkOutcome (Error code position) = refused (numberOf code) position

@@ -2,9 +2,9 @@
 use basis::ErrorCode;
 ghost use mathlib.Core.Path.{_≡_};
 ghost use lib.Dec.{eqb, ltb};
-ghost use Rattle.basis.specs.Outcome.{Outcome, refusedIf};
+ghost use Rattle.basis.specs.Outcome.{Outcome, refusedIf, andThen};
 ghost use Rattle.labels.specs.Tests.{textTests, labelTests};
-ghost use Rattle.labels.specs.Answer.{thenOutcome};
+ghost use Rattle.labels.specs.Answer.{checkOutcome};
 
 // What the first tests say: all are passed, or the error.
 pub enum Check {
@@ -14,7 +14,7 @@ pub enum Check {
 
 // Tests the number of points or bytes that are to be coded, and the room for the result: 1, 2.
 fn check_sizes(length: usize, capacity: usize) -> Check
-    ensures { λ r. ⌜ ((next : Outcome) → thenOutcome r next ≡ refusedIf (ltb capacity 63) 1 0 (refusedIf (eqb length 0) 2 0 next)) ⌝ }
+    ensures { λ r. ⌜ ((next : Outcome) → andThen (λ p. p) (checkOutcome r) next ≡ refusedIf (ltb capacity 63) 1 0 (refusedIf (eqb length 0) 2 0 next)) ⌝ }
 {
     if capacity < 63 {
         return Check::Error {
@@ -33,7 +33,7 @@ fn check_sizes(length: usize, capacity: usize) -> Check
 
 // Tests a text that is to be written into so many bytes: 1, 2, 4.
 pub fn check_text(text: &[u32], capacity: usize) -> Check
-    ensures { λ r. ⌜ ((next : Outcome) → thenOutcome r next ≡ textTests capacity (now (text .entry)) next) ⌝ }
+    ensures { λ r. ⌜ ((next : Outcome) → andThen (λ p. p) (checkOutcome r) next ≡ textTests capacity (now (text .entry)) next) ⌝ }
 {
     let sizes = check_sizes(text.len(), capacity);
     match sizes {
@@ -54,7 +54,7 @@ pub fn check_text(text: &[u32], capacity: usize) -> Check
 
 // Tests a label of so many bytes that is to be read into so many points: 1, 2, 3.
 pub fn check_label(length: usize, capacity: usize) -> Check
-    ensures { λ r. ⌜ ((next : Outcome) → thenOutcome r next ≡ labelTests capacity length next) ⌝ }
+    ensures { λ r. ⌜ ((next : Outcome) → andThen (λ p. p) (checkOutcome r) next ≡ labelTests capacity length next) ⌝ }
 {
     let sizes = check_sizes(length, capacity);
     match sizes {

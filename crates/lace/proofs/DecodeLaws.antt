@@ -11,9 +11,8 @@ use lib.Dec.{eqb, ltb, leb}
 use lib.ListN.{length, take, drop, length-drop, drop-of-length-le}
 use lib.Seq.{sets, drop-cons}
 use borrow.Author.Tests.{le-ltb, eq-eqb, ne-eqb, eqb-true, eqb-false, not-true, not-false}
-use Rattle.basis.specs.Tests.{both, every, within}
+use Rattle.basis.specs.Tests.{both}
 use Rattle.basis.specs.Rows.{at}
-use Rattle.basis.specs.Case.{isCapital, small}
 use Rattle.basis.specs.Outcome.{Outcome, done, refused, refusedIf, numberOf, bytesOutcome, bufferAfter}
 use Rattle.basis.specs.declared.ErrorCode.{ErrorCode}
 use Rattle.basis.specs.declared.ErrorCode.the-variants.{NotWellFormed}
@@ -21,19 +20,21 @@ use Rattle.basis.specs.declared.ByteCount.{ByteCount}
 use Rattle.basis.specs.declared.BytesAnswer.{BytesAnswer}
 use Rattle.basis.specs.declared.BytesAnswer.the-variants as bytes
 use Rattle.basis.proofs.ErrorCode.{the-type}
-use Rattle.basis.proofs.Tests.{cases, by-lt, not-each, first-le, true-not-false}
-use Rattle.basis.proofs.Lists.{at-past}
+use Rattle.basis.proofs.Tests.{cases, first-le}
 use Rattle.basis.proofs.Stores.{Storing, storing-more, storing-none}
 use Rattle.basis.proofs.Parts.{part-is, front-is, front-fits}
-use Rattle.basis.proofs.Outcome.{pass-told, handed-leaves, number-place}
+use Rattle.basis.proofs.Outcome.{pass-given, handed-leaves, number-place}
+use Rattle.ascii.specs.Prefix.{hasPrefix, afterPrefix}
+use Rattle.ascii.specs.Ldh.{isAllLdh}
+use Rattle.ascii.proofs.Prefix.{prefix-long}
 use Rattle.utf16.specs.Units.{toPoints, unpairedAt, firstUnpaired}
 use Rattle.utf16.specs.Answer.{pointsOutcome, toPointsOutcome}
 use Rattle.utf16.specs.declared.PointsAnswer.{PointsAnswer}
 use Rattle.utf16.specs.declared.PointsAnswer.the-variants.{Error}
 use Rattle.utf16.proofs.Refusals.{all-done}
 use Rattle.labels.proofs.FirstTests.{LabelPassed, label-passes}
-use Rattle.wire.specs.Bytes.{toUnits}
-use Rattle.wire.proofs.RoundTrip.{length-toUnits}
+use Rattle.utf16.specs.Bytes.{unitsOfBytes}
+use Rattle.utf16.proofs.BytePairs.{length-unitsOfBytes}
 use Rattle.base32.specs.Alphabet.{lace, valuesOf}
 use Rattle.base32.specs.Form.{octetCount, isLawful}
 use Rattle.base32.specs.Base32.{toOctets}
@@ -42,33 +43,17 @@ use Rattle.base32.specs.Answer as base32
 use Rattle.base32.proofs.Regroup.{length-toOctets}
 use Rattle.base32.proofs.Values.{length-values}
 use Rattle.base32.proofs.Outcomes.{decode-settled, decode-position}
-use Rattle.lace.specs.Prefix.{prefix, hasPrefix, afterPrefix}
-use Rattle.lace.specs.Octets.{runCount, isAllLdh}
+use Rattle.lace.specs.Prefix.{prefix}
+use Rattle.lace.specs.Octets.{runCount}
 use Rattle.lace.specs.Decoding.{mayStand, placeAfter, mayEnd, unitAt, areRuns, unitsFrom, unitsOf, standForUnits, labelOctets, labelUnits, isReadable, textOf}
 use Rattle.lace.specs.Answer.{decodeOutcome}
-use Rattle.lace.specs.Stepping.{octetsOutcome, errorAfterPrefix}
+use Rattle.lace.specs.Internal.{octetsOutcome, errorAfterPrefix}
 use Rattle.lace.specs.declared.decoding.Place.{Place}
 use Rattle.lace.specs.declared.decoding.Place.the-variants.{Count, High, Low}
 
--- the prefix
-
-module _ (l : List ℕ) where
-  pub prefix-short : length l < 4 → false ≡ hasPrefix l
-  unfolding hasPrefix prefix small isCapital within both
-  prefix-short h = sym (not-each 4 (λ i. eqb (small (at l i)) (at prefix i)) 3 (omega arith) (rw (at-past l 3 (omega arith))))
-
-  pub prefix-not : (i : ℕ) → i < 4 → (s : ℕ) → s ≡ small (at l i) → (s ≡ at prefix i → ⊥) → false ≡ hasPrefix l
-  unfolding hasPrefix
-  prefix-not i h s e n = sym (not-each 4 (λ k. eqb (small (at l k)) (at prefix k)) i h (rw (← e) (ne-eqb s _ n)))
-
-  pub prefix-long : (has : Bool) → has ≡ hasPrefix l → not has ≡ false → 4 ≤ length l
-  prefix-long has e n = by-lt (length l) 4 (λ h. absurd (true-not-false (sym e ∙ not-false has n) (sym (prefix-short h)))) (λ h. h)
-
-  pub prefix-last : (a b c d : ℕ) → a ≡ small (at l 0) → b ≡ small (at l 1) → c ≡ small (at l 2) → d ≡ small (at l 3)
-      → a ≡ 108 → b ≡ 113 → c ≡ 45 → eqb d 45 ≡ hasPrefix l
-  unfolding hasPrefix prefix every both
-  prefix-last a b c d ea eb ec ed ha hb hc =
-      rw (← ea, ← eb, ← ec, ← ed, eq-eqb a 108 ha, eq-eqb b 113 hb, eq-eqb c 45 hc) (cases (eqb d 45) (λ e. rw e) (λ e. rw e))
+-- a label that has the prefix is that long
+pub prefix-fits : (l : List ℕ) (has : Bool) → has ≡ hasPrefix prefix l → not has ≡ false → 4 ≤ length l
+prefix-fits l has e n = prefix-long prefix l (sym e ∙ not-false has n)
 
 -- the loop that tests runs: what is left are runs exactly when all are
 
@@ -128,12 +113,12 @@ module _ (old os now : List ℕ) (place : Place) (k i : ℕ) (s : Storing old (u
 
 -- the units of octets, and what the octets stand for
 
--- so many values stand at the front of the buffer that was old
+-- so many values are at the front of the buffer that was old
 abbrev Stored : List ℕ → List ℕ → List ℕ → ℕ → Type 0
 Stored values old now n = (n ≡ length values) × (now ≡ values ++ drop (length values) old)
 
 module _ (os : List ℕ) where
-  units-ff : at os 0 ≡ 255 → unitsOf os ≡ toUnits (drop 1 os)
+  units-ff : at os 0 ≡ 255 → unitsOf os ≡ unitsOfBytes (drop 1 os)
   unfolding unitsOf
   units-ff ff = rw (eq-eqb _ _ ff)
 
@@ -144,7 +129,7 @@ module _ (os : List ℕ) where
   pub units-le : length (unitsOf os) ≤ length os
   units-le =
       cases (eqb (at os 0) 255)
-      (λ e. rw (units-ff (eqb-true _ _ e)) (omega (arith, length-toUnits (drop 1 os), length-drop 1 os)))
+      (λ e. rw (units-ff (eqb-true _ _ e)) (omega (arith, length-unitsOfBytes (drop 1 os), length-drop 1 os)))
       (λ e. rw (units-runs (eqb-false _ _ e)) (run-units-le (Count 256) os))
 
   pub stored-none : length os ≡ 0 → (old : List ℕ) → Stored (unitsOf os) old old 0
@@ -155,7 +140,7 @@ module _ (os : List ℕ) where
       nothing (x ∷ xs) e = absurd (omega arith)
 
   module _ (old now : List ℕ) (n : ℕ) where
-    pub stored-ff : at os 0 ≡ 255 → Stored (toUnits (take (length os - 1) (drop 1 os))) old now n → Stored (unitsOf os) old now n
+    pub stored-ff : at os 0 ≡ 255 → Stored (unitsOfBytes (take (length os - 1) (drop 1 os))) old now n → Stored (unitsOf os) old now n
     stored-ff ff s = rw (units-ff ff) (rw (part-is 1 os) at s)
 
     pub stored-runs : (at os 0 ≡ 255 → ⊥) → Stored (unitsFrom (Count 256) os) old now n → Stored (unitsOf os) old now n
@@ -176,7 +161,7 @@ stand-none (x ∷ os) e = absurd (omega arith)
 
 -- the octets stand for these units in so many runs
 module _ (os us : List ℕ) (unitsIs : us ≡ unitsOf os) (r : ℕ) (runsIs : r ≡ runCount us) where
-  -- FF stands first
+  -- FF is first
   module _ (ff : at os 0 ≡ 255) where
     pub stand-even : (length os % 2 ≡ 1 → ⊥) → false ≡ standForUnits os
     unfolding standForUnits both
@@ -238,42 +223,42 @@ other-error code position o r e =
     ap pointsOutcome e ∙ sym (rw (ne-eqb (numberOf code) 7 (λ q. t (omega (arith, number-place code .0)))))
 
 -- what follows the prefix, as the Base32 reader sees it
-abbrev lent : List ℕ → List ℕ
-lent l = take (length l - 4) (drop 4 l)
+abbrev passed : List ℕ → List ℕ
+passed l = take (length l - 4) (drop 4 l)
 
 -- its answer, for a label of at most 63 bytes
-module _ (l : List ℕ) (short : length l ≤ 63) (answer : BytesAnswer) (answerIs : bytesOutcome answer ≡ base32.decodeOutcome (lent l) 36) where
-  read : base32.decodeOutcome (afterPrefix l) 36 ≡ bytesOutcome answer
+module _ (l : List ℕ) (short : length l ≤ 63) (answer : BytesAnswer) (answerIs : bytesOutcome answer ≡ base32.decodeOutcome (passed l) 36) where
+  read : base32.decodeOutcome (afterPrefix prefix l) 36 ≡ bytesOutcome answer
   read = sym (answerIs ∙ ap (λ (cs : List ℕ). base32.decodeOutcome cs 36) (part-is 4 l))
 
   -- an error
   module _ (code : ErrorCode) (position : ℕ) (e : answer ≡ bytes.Error code position) where
-    error-is : base32.decodeOutcome (afterPrefix l) 36 ≡ refused (numberOf code) position
+    error-is : base32.decodeOutcome (afterPrefix prefix l) 36 ≡ refused (numberOf code) position
     unfolding bytesOutcome
     error-is = read ∙ ap bytesOutcome e
 
     pub position-small : position < 64
-    position-small = omega (arith, decode-position (afterPrefix l) 36 (numberOf code) position error-is, length-drop 4 l)
+    position-small = omega (arith, decode-position (afterPrefix prefix l) 36 (numberOf code) position error-is, length-drop 4 l)
 
   -- octets
   module _ (count : ByteCount) (e : answer ≡ bytes.Bytes count) where
-    count-is : base32.decodeOutcome (afterPrefix l) 36 ≡ done (count .0)
+    count-is : base32.decodeOutcome (afterPrefix prefix l) 36 ≡ done (count .0)
     unfolding bytesOutcome
     count-is = read ∙ ap bytesOutcome e
 
-    count-octets : count .0 ≡ octetCount (length (afterPrefix l))
-    count-octets = decode-settled (afterPrefix l) 36 .succeeds (count .0) .0 count-is .1
+    count-octets : count .0 ≡ octetCount (length (afterPrefix prefix l))
+    count-octets = decode-settled (afterPrefix prefix l) 36 .succeeds (count .0) .0 count-is .1
 
     pub count-small : count .0 ≤ 36
     count-small = omega (arith, count-octets, length-drop 4 l)
 
     -- at the front of a row
-    module _ (row old : List ℕ) (rowIs : row ≡ bufferAfter (base32.decodeOutcome (lent l) 36) (toOctets (valuesOf lace (lent l))) old) where
+    module _ (row old : List ℕ) (rowIs : row ≡ bufferAfter (base32.decodeOutcome (passed l) 36) (toOctets (valuesOf lace (passed l))) old) where
       octets-front : take (count .0) row ≡ labelOctets l
       unfolding labelOctets bufferAfter
       octets-front =
           front-is (count .0) (labelOctets l) (drop (count .0) old) row
-          (count-octets ∙ sym (length-toOctets (valuesOf lace (afterPrefix l)) ∙ ap octetCount (length-values lace (afterPrefix l))))
+          (count-octets ∙ sym (length-toOctets (valuesOf lace (afterPrefix prefix l)) ∙ ap octetCount (length-values lace (afterPrefix prefix l))))
           (rowIs ∙ rw (part-is 4 l, count-is))
 
 -- what follows the prefix: the Base32 reader's outcome decides, and after it the octets'
@@ -283,14 +268,14 @@ afterReading (refused number position) next = errorAfterPrefix number position
 
 -- the tests after the prefix are those of the Base32 reader, and then those of the octets
 after-prefix : (l : List ℕ) → length l ≤ 63
-    → refusedIf (ltb (firstOutside lace (afterPrefix l)) (length (afterPrefix l))) 7 (4 + firstOutside lace (afterPrefix l))
+    → refusedIf (ltb (firstOutside lace (afterPrefix prefix l)) (length (afterPrefix prefix l))) 7 (4 + firstOutside lace (afterPrefix prefix l))
     (refusedIf (not (isReadable l)) 9 0
     (refusedIf (isAllLdh (labelUnits l)) 6 0
     (done (length (textOf l)))))
-    ≡ afterReading (base32.decodeOutcome (afterPrefix l) 36) (octetsOutcome (labelOctets l))
+    ≡ afterReading (base32.decodeOutcome (afterPrefix prefix l) 36) (octetsOutcome (labelOctets l))
 unfolding base32.decodeOutcome refusedIf octetsOutcome isReadable both afterReading errorAfterPrefix labelUnits textOf
 after-prefix l short =
-    let cs = afterPrefix l in
+    let cs = afterPrefix prefix l in
     let os = labelOctets l in
     simp (le-ltb 36 (octetCount (length cs)) (omega (arith, length-drop 4 l)))
     (cases (ltb (firstOutside lace cs) (length cs)) (λ e. simp e)
@@ -299,14 +284,14 @@ after-prefix l short =
     (λ f. simp (e, f))))
 
 -- the returns of `decode` for a label of 1 to 63 bytes that begins with the prefix, by the Base32 reader's answer
-module _ (buffer l : List ℕ) (checked : LabelPassed (length buffer) (length l)) (has : Bool) (hasIs : has ≡ hasPrefix l) (yes : not has ≡ false)
-    (answer : BytesAnswer) (answerIs : bytesOutcome answer ≡ base32.decodeOutcome (lent l) 36) where
+module _ (buffer l : List ℕ) (checked : LabelPassed (length buffer) (length l)) (has : Bool) (hasIs : has ≡ hasPrefix prefix l) (yes : not has ≡ false)
+    (answer : BytesAnswer) (answerIs : bytesOutcome answer ≡ base32.decodeOutcome (passed l) 36) where
   abbrev Answered : PointsAnswer → List ℕ → Type 0
   Answered r left = (pointsOutcome r ≡ decodeOutcome isAllLdh (length buffer) l) × (left ≡ bufferAfter (decodeOutcome isAllLdh (length buffer) l) (textOf l) buffer)
 
-  decode-after : decodeOutcome isAllLdh (length buffer) l ≡ afterReading (base32.decodeOutcome (afterPrefix l) 36) (octetsOutcome (labelOctets l))
+  decode-after : decodeOutcome isAllLdh (length buffer) l ≡ afterReading (base32.decodeOutcome (afterPrefix prefix l) 36) (octetsOutcome (labelOctets l))
   unfolding decodeOutcome
-  decode-after = label-passes _ _ _ checked ∙ pass-told _ _ _ _ _ (ap not hasIs) yes ∙ after-prefix l (checked .short)
+  decode-after = label-passes _ _ _ checked ∙ pass-given _ _ _ _ _ (ap not hasIs) yes ∙ after-prefix l (checked .short)
 
   pub answer-error : (code : ErrorCode) (position : ℕ) → answer ≡ bytes.Error code position → (r : PointsAnswer) → pointsOutcome r ≡ errorAfterPrefix (numberOf code) position
       → Answered r buffer
@@ -316,7 +301,7 @@ module _ (buffer l : List ℕ) (checked : LabelPassed (length buffer) (length l)
       (a ∙ sym o, rw o (cases (eqb (numberOf code) 7) (λ t. rw t) (λ t. rw t)))
 
   pub answer-octets : (count : ByteCount) → answer ≡ bytes.Bytes count → (row old : List ℕ)
-      → row ≡ bufferAfter (base32.decodeOutcome (lent l) 36) (toOctets (valuesOf lace (lent l))) old
+      → row ≡ bufferAfter (base32.decodeOutcome (passed l) 36) (toOctets (valuesOf lace (passed l))) old
       → (r : PointsAnswer) (left : List ℕ)
       → (pointsOutcome r ≡ octetsOutcome (take (count .0) row)) × (left ≡ bufferAfter (octetsOutcome (take (count .0) row)) (toPoints (unitsOf (take (count .0) row))) buffer)
       → Answered r left

@@ -13,26 +13,24 @@ use Rattle.basis.specs.Outcome.{Outcome, done, refused, refusedIf, countOf, buf
 use Rattle.basis.proofs.Tests.{cases, by-lt}
 use Rattle.basis.proofs.Lists.{sets-front}
 use Rattle.basis.proofs.Stores.{Storing, storing-more, storing-none}
-use Rattle.basis.proofs.Parts.{lent-is, lent-filled, front-is, front-fits, front-long}
-use Rattle.basis.proofs.Outcome.{refusal-leaves, done-leaves, done-not-refused, done-count}
+use Rattle.basis.proofs.Parts.{rest-is, rest-filled, front-is, front-fits, front-long}
+use Rattle.basis.proofs.Outcome.{pass-below, refusal-leaves, done-leaves, done-not-refused, done-count}
 use Rattle.utf16.specs.Points.{firstNotPoint}
 use Rattle.utf16.specs.Units.{toUnits}
-use Rattle.utf16.specs.Answer.{toUnitsOutcome}
+use Rattle.utf16.specs.Answer.{toUnitsOutcome, unitsToBytesOutcome}
 use Rattle.utf16.proofs.Refusals as utf16-laws
 use Rattle.utf16.proofs.RoundTrip.{some-toUnits}
-use Rattle.wire.specs.Bytes.{toBytes}
-use Rattle.wire.specs.Answer.{toBytesOutcome}
-use Rattle.wire.proofs.RoundTrip.{length-toBytes}
-use Rattle.wire.proofs.Refusals.{bytes-done}
+use Rattle.utf16.specs.Bytes.{bytesOfUnits}
+use Rattle.utf16.proofs.BytePairs.{length-bytesOfUnits}
+use Rattle.utf16.proofs.Refusals.{bytes-done}
 use Rattle.base32.specs.Alphabet.{lace}
 use Rattle.base32.specs.Base32.{quintetCount, charactersOf}
 use Rattle.base32.specs.Answer as base32
 use Rattle.base32.proofs.Values.{length-charactersOf}
-use Rattle.base32.proofs.Outcomes.{encode-done}
 use Rattle.lace.specs.Prefix.{prefix}
 use Rattle.lace.specs.Octets.{runCount}
 use Rattle.lace.specs.Encoding.{octetsOf, labelOf}
-use Rattle.lace.specs.Stepping.{sameHigh, runStep, runSteps, unitsOutcome}
+use Rattle.lace.specs.Internal.{sameHigh, runStep, runSteps, unitsOutcome}
 use Rattle.lace.proofs.Runs.{runs-count, runs-steps, units-few}
 
 -- the units of one high octet from index i on: one more, another, none left
@@ -87,7 +85,7 @@ module _ (old us now : List ℕ) (before k i : ℕ) (s : Storing old (runSteps 2
       let e : runSteps before (drop i us) ≡ [] = rw (drop-of-length-le us h) in
       storing-none _ _ _ _ _ s e (omega (arith, s .count, ap length e))
 
--- FF is stored first, and the rest is lent to the writer of bytes
+-- FF is stored first, and the rest is passed to the writer of bytes
 module _ (us old : List ℕ) (fits : 2 * length us + 1 ≤ length old) where
   abbrev behindFF : List ℕ
   behindFF = take (length (set old 0 255) - 1) (drop 1 (set old 0 255))
@@ -95,26 +93,26 @@ module _ (us old : List ℕ) (fits : 2 * length us + 1 ≤ length old) where
   begun : set old 0 255 ≡ (255 ∷ []) ++ drop 1 old
   begun = sets-front (255 ∷ []) old (omega arith)
 
-  all-done : toBytesOutcome us (length us) (length behindFF) ≡ done (2 * length us)
+  all-done : unitsToBytesOutcome us (length us) (length behindFF) ≡ done (2 * length us)
   all-done =
-      let lent = lent-is 1 (255 ∷ []) (drop 1 old) (set old 0 255) refl begun in
-      bytes-done us (length us) (length behindFF) (omega arith) (omega (arith, ap length lent, length-drop 1 old)) (2 * length us) (rw take-length (sym (length-toBytes us)))
+      let passed = rest-is 1 (255 ∷ []) (drop 1 old) (set old 0 255) refl begun in
+      bytes-done us (length us) (length behindFF) (omega arith) (omega (arith, ap length passed, length-drop 1 old)) (2 * length us) (rw take-length (sym (length-bytesOfUnits us)))
 
-  pub all-counted : (answer : Outcome) (n : ℕ) → answer ≡ toBytesOutcome us (length us) (length behindFF) → n ≡ countOf answer → n ≡ 2 * length us
+  pub all-counted : (answer : Outcome) (n : ℕ) → answer ≡ unitsToBytesOutcome us (length us) (length behindFF) → n ≡ countOf answer → n ≡ 2 * length us
   unfolding countOf
   all-counted answer n a e = e ∙ ap countOf (a ∙ all-done)
 
-  pub all-stored : (part : List ℕ) → part ≡ bufferAfter (toBytesOutcome us (length us) (length behindFF)) (toBytes (take (length us) us)) behindFF
-      → take 1 (set old 0 255) ++ (part ++ drop (length (set old 0 255) - 1) (drop 1 (set old 0 255))) ≡ (0xff ∷ toBytes us) ++ drop (2 * length us + 1) old
+  pub all-stored : (part : List ℕ) → part ≡ bufferAfter (unitsToBytesOutcome us (length us) (length behindFF)) (bytesOfUnits (take (length us) us)) behindFF
+      → take 1 (set old 0 255) ++ (part ++ drop (length (set old 0 255) - 1) (drop 1 (set old 0 255))) ≡ (0xff ∷ bytesOfUnits us) ++ drop (2 * length us + 1) old
   unfolding bufferAfter
   all-stored part e =
       let k : 1 + 2 * length us ≡ 2 * length us + 1 = omega arith in
-      lent-filled 1 (2 * length us) (255 ∷ []) (toBytes us) old (set old 0 255) refl begun part (e ∙ rw (all-done, take-length))
-      ∙ ap (λ (n : ℕ). (0xff ∷ toBytes us) ++ drop n old) k
+      rest-filled 1 (2 * length us) (255 ∷ []) (bytesOfUnits us) old (set old 0 255) refl begun part (e ∙ rw (all-done, take-length))
+      ∙ ap (λ (n : ℕ). (0xff ∷ bytesOfUnits us) ++ drop n old) k
 
-  pub all-long : (now : List ℕ) → now ≡ (0xff ∷ toBytes us) ++ drop (2 * length us + 1) old → length now ≡ length old
+  pub all-long : (now : List ℕ) → now ≡ (0xff ∷ bytesOfUnits us) ++ drop (2 * length us + 1) old → length now ≡ length old
   all-long now e =
-      omega (arith, ap length e, length-append (0xff ∷ toBytes us) (drop (2 * length us + 1) old), length-drop (2 * length us + 1) old, length-toBytes us)
+      omega (arith, ap length e, length-append (0xff ∷ bytesOfUnits us) (drop (2 * length us + 1) old), length-drop (2 * length us + 1) old, length-bytesOfUnits us)
 
 -- the octets of units are those of their runs, or FF and all units
 module _ (us : List ℕ) (r : ℕ) (count : r ≡ runCount us) (n : ℕ) (now old : List ℕ) where
@@ -127,36 +125,36 @@ module _ (us : List ℕ) (r : ℕ) (count : r ≡ runCount us) (n : ℕ) (now ol
       let e : runSteps 256 us ≡ octetsOf us = runs-steps us b ∙ rw (runs-count, ← count, le-leb (2 * r + length us) (2 * length us) h) in
       rw (← e) p
 
-  pub octets-all : 2 * length us < 2 * r + length us → n ≡ 2 * length us + 1 → now ≡ (0xff ∷ toBytes us) ++ drop (2 * length us + 1) old → Put (octetsOf us)
+  pub octets-all : 2 * length us < 2 * r + length us → n ≡ 2 * length us + 1 → now ≡ (0xff ∷ bytesOfUnits us) ++ drop (2 * length us + 1) old → Put (octetsOf us)
   unfolding octetsOf
   octets-all h p q =
-      let e : 0xff ∷ toBytes us ≡ octetsOf us = rw (runs-count, ← count, lt-leb (2 * r + length us) (2 * length us) h) in
-      let l : 2 * length us + 1 ≡ length (0xff ∷ toBytes us) = omega (arith, length-toBytes us) in
-      rw (← e) (p ∙ l, q ∙ ap (λ (k : ℕ). (0xff ∷ toBytes us) ++ drop k old) l)
+      let e : 0xff ∷ bytesOfUnits us ≡ octetsOf us = rw (runs-count, ← count, lt-leb (2 * r + length us) (2 * length us) h) in
+      let l : 2 * length us + 1 ≡ length (0xff ∷ bytesOfUnits us) = omega (arith, length-bytesOfUnits us) in
+      rw (← e) (p ∙ l, q ∙ ap (λ (k : ℕ). (0xff ∷ bytesOfUnits us) ++ drop k old) l)
 
--- the label put together: now is the label after the prefix was stored, whose rest is lent to the Base32 writer
+-- the label put together: now is the label after the prefix was stored, whose rest is passed to the Base32 writer
 module _ (octets label now : List ℕ) (fits : 4 + quintetCount (length octets) ≤ length label) (begun : now ≡ prefix ++ drop 4 label) where
-  abbrev lent : List ℕ
-  lent = take (length now - 4) (drop 4 now)
+  abbrev passed : List ℕ
+  passed = take (length now - 4) (drop 4 now)
 
-  label-done : base32.encodeOutcome octets (length lent) ≡ done (quintetCount (length octets))
-  unfolding prefix
+  label-done : base32.encodeOutcome octets (length passed) ≡ done (quintetCount (length octets))
+  unfolding base32.encodeOutcome
   label-done =
-      let is = lent-is 4 prefix (drop 4 label) now refl begun in
-      encode-done octets (length lent) (quintetCount (length octets)) refl (omega (arith, ap length is, length-drop 4 label))
+      let is = rest-is 4 prefix (drop 4 label) now refl begun in
+      pass-below 1 0 _ (length passed) (quintetCount (length octets)) (omega (arith, ap length is, length-drop 4 label))
 
-  pub label-counted : (answer : Outcome) (n : ℕ) → answer ≡ base32.encodeOutcome octets (length lent) → n ≡ countOf answer → n ≡ quintetCount (length octets)
+  pub label-counted : (answer : Outcome) (n : ℕ) → answer ≡ base32.encodeOutcome octets (length passed) → n ≡ countOf answer → n ≡ quintetCount (length octets)
   unfolding countOf
   label-counted answer n a e = e ∙ ap countOf (a ∙ label-done)
 
-  pub label-stored : (part : List ℕ) → part ≡ bufferAfter (base32.encodeOutcome octets (length lent)) (charactersOf lace octets) lent
+  pub label-stored : (part : List ℕ) → part ≡ bufferAfter (base32.encodeOutcome octets (length passed)) (charactersOf lace octets) passed
       → take 4 now ++ (part ++ drop (length now - 4) (drop 4 now)) ≡ (prefix ++ charactersOf lace octets) ++ drop (4 + quintetCount (length octets)) label
-  unfolding prefix bufferAfter
-  label-stored part e = lent-filled 4 (quintetCount (length octets)) prefix (charactersOf lace octets) label now refl begun part (e ∙ rw label-done)
+  unfolding bufferAfter
+  label-stored part e = rest-filled 4 (quintetCount (length octets)) prefix (charactersOf lace octets) label now refl begun part (e ∙ rw label-done)
 
 -- the length of a label, by its octets
 pub length-label : (t : List ℕ) → length (labelOf t) ≡ 4 + quintetCount (length (octetsOf (toUnits t)))
-unfolding labelOf prefix
+unfolding labelOf
 length-label t = omega (arith, length-charactersOf lace (octetsOf (toUnits t)))
 
 -- 36 octets or fewer make a label of at most 63 bytes, more make a longer one
@@ -168,7 +166,7 @@ octets-short : (us : List ℕ) → length (octetsOf us) ≤ 36 → unitsOutcome 
 unfolding unitsOutcome refusedIf
 octets-short us h = rw (le-ltb 63 (4 + quintetCount (length (octetsOf us))) (omega arith))
 
--- the octets of units stand first in their buffer
+-- the octets of units are first in their buffer
 pub octets-are : (us : List ℕ) (n : ℕ) → n ≡ length (octetsOf us) → (now old : List ℕ) → now ≡ octetsOf us ++ drop (length (octetsOf us)) old → take n now ≡ octetsOf us
 octets-are us n count now old left = front-is n (octetsOf us) _ now count left
 
@@ -192,7 +190,7 @@ module _ (us label : List ℕ) where
         let r = done-leaves (unitsOutcome us) (prefix ++ charactersOf lace (octetsOf us)) label now c (octets-short us (omega arith)) (rw e at b) in
         (rw e at a ∙ r .0, r .1)
 
--- the converter is done with the text: its units stand first in the buffer
+-- the converter is done with the text: its units are first in the buffer
 pub record Converted (t : List ℕ) (answer : Outcome) (now : List ℕ) : Type 0 where
   pub rest : List ℕ
   pub counts : answer ≡ done (length (toUnits t))
@@ -222,8 +220,8 @@ module _ {t : List ℕ} {answer : Outcome} {now : List ℕ} (v : Converted t ans
     pub units-fit : n ≤ length now
     units-fit = front-fits n (toUnits t) (v .rest) now (done-count is (v .counts)) (v .leaves)
 
-    pub units-lent : n ≡ length (take n now)
-    units-lent = front-long n (toUnits t) (v .rest) now (done-count is (v .counts)) (v .leaves)
+    pub units-long : n ≡ length (take n now)
+    units-long = front-long n (toUnits t) (v .rest) now (done-count is (v .counts)) (v .leaves)
 
     pub units-are : take n now ≡ toUnits t
     units-are = front-is n (toUnits t) (v .rest) now (done-count is (v .counts)) (v .leaves)

@@ -10,11 +10,11 @@ use Rattle.basis.specs.Tests.{pick}
 use Rattle.basis.specs.Rows.{AllBelow}
 use Rattle.basis.proofs.Tests.{cases}
 use Rattle.basis.proofs.Lists.{below-none, below-more, below-tail}
-use Rattle.wire.specs.Bytes.{toBytes}
-use Rattle.wire.proofs.RoundTrip.{length-toBytes, bytes-below}
+use Rattle.utf16.specs.Bytes.{bytesOfUnits}
+use Rattle.utf16.proofs.BytePairs.{length-bytesOfUnits, below-bytesOfUnits}
 use Rattle.lace.specs.Octets.{unitOf, Run, run, runUnits, changeBetween, changes, runCount}
 use Rattle.lace.specs.Encoding.{joinRun, longestRuns, runOctets, octetsOf}
-use Rattle.lace.specs.Stepping.{sameHigh, runStep, runSteps}
+use Rattle.lace.specs.Internal.{sameHigh, runStep, runSteps}
 
 -- the low octets of the first run if it has this high octet
 unfoldable pub lowsUnder : ℕ → List Run → List ℕ
@@ -111,7 +111,7 @@ octets-number us =
     rw runs-count
     (cases (leb (2 * runCount us + length us) (2 * length us))
     (λ e. rw e (length-runOctets (longestRuns us) ∙ rw (runs-count, runs-join)))
-    (λ e. rw e (let l = length-toBytes us in omega arith)))
+    (λ e. rw e (let l = length-bytesOfUnits us in omega arith)))
 
 -- two more than the units at least
 pub units-few : (us : List ℕ) → 1 ≤ length us → length us + 2 ≤ length (octetsOf us)
@@ -151,4 +151,4 @@ unfolding octetsOf
 octets-below us b n =
     cases (leb (2 * length (longestRuns us) + length us) (2 * length us))
     (λ e. rw e (runs-below us b n))
-    (λ e. rw e (below-more 256 255 (toBytes us) (omega arith) (bytes-below us b)))
+    (λ e. rw e (below-more 256 255 (bytesOfUnits us) (omega arith) (below-bytesOfUnits us b)))

@@ -5,10 +5,11 @@ use mathlib.Core.List.{List}
 use lib.Dec.{ltb}
 use lib.ListN.{length}
 use Rattle.basis.specs.Outcome.{Outcome, done, refusedIf}
+use Rattle.ascii.specs.Prefix.{hasPrefix, afterPrefix}
 use Rattle.labels.specs.Tests.{textTests, labelTests}
 use Rattle.base32.specs.Alphabet.{lace}
 use Rattle.base32.specs.Answer.{firstOutside}
-use Rattle.lace.specs.Prefix.{hasPrefix, afterPrefix}
+use Rattle.lace.specs.Prefix.{prefix}
 use Rattle.lace.specs.Encoding.{labelOf}
 use Rattle.lace.specs.Decoding.{isReadable, labelUnits, textOf}
 
@@ -24,8 +25,8 @@ encodeOutcome reserved capacity t =
 unfoldable pub decodeOutcome : (List ℕ → Bool) → ℕ → List ℕ → Outcome
 decodeOutcome reserved capacity l =
     labelTests capacity (length l)
-    (refusedIf (not (hasPrefix l)) 8 0
-    (refusedIf (ltb (firstOutside lace (afterPrefix l)) (length (afterPrefix l))) 7 (4 + firstOutside lace (afterPrefix l))
+    (refusedIf (not (hasPrefix prefix l)) 8 0
+    (refusedIf (ltb (firstOutside lace (afterPrefix prefix l)) (length (afterPrefix prefix l))) 7 (4 + firstOutside lace (afterPrefix prefix l))
     (refusedIf (not (isReadable l)) 9 0
     (refusedIf (reserved (labelUnits l)) 6 0
     (done (length (textOf l)))))))

@@ -6,12 +6,13 @@ use lib.Dec.{eqb, ltb, leb}
 use lib.ListN.{length, drop}
 use Rattle.basis.specs.Tests.{pick, both}
 use Rattle.basis.specs.Rows.{at}
+use Rattle.ascii.specs.Prefix.{afterPrefix}
 use Rattle.utf16.specs.Units.{toPoints, firstUnpaired}
 use Rattle.base32.specs.Alphabet.{lace, valuesOf}
 use Rattle.base32.specs.Form.{isLawful}
 use Rattle.base32.specs.Base32.{toOctets}
-use Rattle.wire.specs.Bytes as wire
-use Rattle.lace.specs.Prefix.{afterPrefix}
+use Rattle.utf16.specs.Bytes.{unitsOfBytes}
+use Rattle.lace.specs.Prefix.{prefix}
 use Rattle.lace.specs.Octets.{unitOf, runCount}
 use Rattle.lace.specs.declared.decoding.Place.{Place}
 use Rattle.lace.specs.declared.decoding.Place.the-variants.{Count, High, Low}
@@ -19,7 +20,7 @@ use Rattle.lace.specs.declared.decoding.Place.the-variants.{Count, High,
 -- A place among runs: before a count, after a run of this high octet (256 where none was); before the high octet of a run of
 -- so many; before a low octet, with so many to come under this high octet.
 
--- the octet may stand there: a count is 1 or more, a high octet is not that of the run before
+-- the octet may be there: a count is 1 or more, a high octet is not that of the run before
 unfoldable pub mayStand : Place → ℕ → Bool
 mayStand (Count previous) x = not (eqb x 0)
 mayStand (High previous count) x = not (eqb x previous)
@@ -53,13 +54,13 @@ unfoldable pub unitsFrom : Place → List ℕ → List ℕ
 unitsFrom place [] = []
 unitsFrom place (x ∷ octets) = unitAt place x (unitsFrom (placeAfter place x) octets)
 
--- FF stands first
+-- FF is first
 abbrev pub beginsFF : List ℕ → Bool
 beginsFF octets = eqb (at octets 0) 0xff
 
 -- the units of octets: after FF all units, high octet first, else runs
 unfoldable pub unitsOf : List ℕ → List ℕ
-unitsOf octets = pick (beginsFF octets) (wire.toUnits (drop 1 octets)) (unitsFrom (Count 256) octets)
+unitsOf octets = pick (beginsFF octets) (unitsOfBytes (drop 1 octets)) (unitsFrom (Count 256) octets)
 
 -- the octets stand for units: after FF one or more whole units in more runs than half their number, else runs, at most so many
 unfoldable pub standForUnits : List ℕ → Bool
@@ -70,7 +71,7 @@ standForUnits octets =
 
 -- the octets and the units of a label
 unfoldable pub labelOctets : List ℕ → List ℕ
-labelOctets l = toOctets (valuesOf lace (afterPrefix l))
+labelOctets l = toOctets (valuesOf lace (afterPrefix prefix l))
 
 unfoldable pub labelUnits : List ℕ → List ℕ
 labelUnits l = unitsOf (labelOctets l)
@@ -78,7 +79,7 @@ labelUnits l = unitsOf (labelOctets l)
 -- what follows the prefix is lawful Base32 of octets that stand for units, of which no surrogate is unpaired
 unfoldable pub isReadable : List ℕ → Bool
 isReadable l =
-    both (isLawful (valuesOf lace (afterPrefix l)))
+    both (isLawful (valuesOf lace (afterPrefix prefix l)))
     (both (standForUnits (labelOctets l))
     (eqb (firstUnpaired (labelUnits l)) (length (labelUnits l))))
 

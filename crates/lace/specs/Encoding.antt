@@ -7,7 +7,7 @@ use Rattle.basis.specs.Tests.{pick}
 use Rattle.utf16.specs.Units.{toUnits}
 use Rattle.base32.specs.Alphabet.{lace}
 use Rattle.base32.specs.Base32.{charactersOf}
-use Rattle.wire.specs.Bytes as wire
+use Rattle.utf16.specs.Bytes.{bytesOfUnits}
 use Rattle.lace.specs.Prefix.{prefix}
 use Rattle.lace.specs.Octets.{Run, run}
 
@@ -32,7 +32,7 @@ unfoldable pub octetsOf : List ℕ → List ℕ
 octetsOf us =
     pick (leb (2 * length (longestRuns us) + length us) (2 * length us))
     (runOctets (longestRuns us))
-    (0xff ∷ wire.toBytes us)
+    (0xff ∷ bytesOfUnits us)
 
 -- the label: the prefix, and the octets in Base32
 unfoldable pub labelOf : List ℕ → List ℕ

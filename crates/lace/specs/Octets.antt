@@ -1,10 +1,8 @@
--- Runs (the paper's stretches) of units with equal high octet, and LDH rows.
+-- Runs (the paper's stretches) of units with equal high octet.
 use Prim.Native.Nat.{ℕ, suc, _+_, _*_, _/_}
-use mathlib.Core.Bool.{Bool}
 use mathlib.Core.List.{List, [], _∷_, _++_, map}
 use lib.Dec.{eqb}
-use Rattle.basis.specs.Tests.{pick, everyIn}
-use Rattle.utf16.specs.Points.{isLdh}
+use Rattle.basis.specs.Tests.{pick}
 
 -- the unit of a high and a low octet
 abbrev pub unitOf : ℕ → ℕ → ℕ
@@ -32,7 +30,3 @@ changes before (u ∷ us) = changeBetween before u + changes u us
 unfoldable pub runCount : List ℕ → ℕ
 runCount [] = 0
 runCount (u ∷ us) = suc (changes u us)
-
--- all are LDH: the rows that LACE leaves to plain host names
-unfoldable pub isAllLdh : List ℕ → Bool
-isAllLdh xs = everyIn isLdh xs

@@ -3,6 +3,7 @@ use crate::octets;
 use basis::ErrorCode;
 use utf16::PointsAnswer;
 use utf16::UnitCount;
+use utf16::UnitsAnswer;
 ghost use mathlib.Core.Path.{_≡_};
 ghost use mathlib.Core.List.{[], _++_};
 ghost use Prim.Native.Nat.{_+_, _<_, _≤_};
@@ -11,9 +12,9 @@ ghost use lib.Seq.{sets};
 ghost use Rattle.basis.specs.Outcome.{numberOf, bufferAfter};
 ghost use Rattle.utf16.specs.Units.{toPoints};
 ghost use Rattle.utf16.specs.Answer.{pointsOutcome};
-ghost use Rattle.wire.specs.Bytes.{toUnits};
+ghost use Rattle.utf16.specs.Bytes.{unitsOfBytes};
 ghost use Rattle.lace.specs.Decoding.{mayStand, placeAfter, mayEnd, unitAt, areRuns, unitsFrom, unitsOf, standForUnits};
-ghost use Rattle.lace.specs.Stepping.{octetsOutcome, errorAfterPrefix};
+ghost use Rattle.lace.specs.Internal.{octetsOutcome, errorAfterPrefix};
 
 // A place among runs: before a count, after a run of this high octet (256 where none was); before the high octet of a run of so
 // many; before a low octet, with so many to come under this high octet.
@@ -23,7 +24,7 @@ pub enum Place {
     Low(u8, u8),
 }
 
-// Whether the octet may stand there.
+// Whether the octet may be there.
 fn may_stand(place: Place, octet: u8) -> bool
     ensures { λ r. ⌜ r ≡ mayStand place octet ⌝ }
 {
@@ -112,19 +113,22 @@ fn put_run_units(octets: &[u8], units: &mut [u16]) -> usize
     at
 }
 
-// Writes the units of octets that are all units, high octet first, and answers their count.
+// Writes the units of octets that are all units, high octet first, and answers their count; the last
+// of an odd number of octets makes no unit.
 fn put_unit_pairs(octets: &[u8], units: &mut [u16]) -> usize
     requires { ⌜ length (now octets) ≤ length (now units) ⌝ }
-    ensures { λ r. ⌜ r ≡ length (toUnits (now (octets .entry))) ⌝ }
-    ensures { λ _. ⌜ now (units .exit) ≡ toUnits (now (octets .entry)) ++ drop (length (toUnits (now (octets .entry)))) (now (units .entry)) ⌝ }
+    ensures { λ r. ⌜ r ≡ length (unitsOfBytes (now (octets .entry))) ⌝ }
+    ensures { λ _. ⌜ now (units .exit) ≡ unitsOfBytes (now (octets .entry)) ++ drop (length (unitsOfBytes (now (octets .entry)))) (now (units .entry)) ⌝ }
 {
-    let n = octets.len() / 2;
-    let mut i = 0;
-    while i < n {
-        units[i] = (octets[2 * i] as u16) * 256 + (octets[2 * i + 1] as u16);
-        i += 1;
+    let even = octets.len() - octets.len() % 2;
+    let answer = utf16::bytes::bytes_to_units(&octets[..even], units);
+    match answer {
+        UnitsAnswer::Units(count) => count.0,
+        UnitsAnswer::Error {
+            code: _,
+            position: _,
+        } => 0,
     }
-    n
 }
 
 // Writes the units of octets, and answers their count.
@@ -183,10 +187,10 @@ pub(crate) fn decode_octets(octets: &[u8], text: &mut [u32]) -> PointsAnswer
     let mut units = [0u16; 36];
     let n = put_units(octets, &mut units);
     let row = &units[..n];
-    let stands = stand_for_units(octets, row);
+    let meant = stand_for_units(octets, row);
     let unpaired = utf16::units::first_unpaired(row);
-    let all_ldh = octets::units_all_ldh(row);
-    if !stands {
+    let all_ldh = ascii::units_all_ldh(row);
+    if !meant {
         return utf16::points_error(ErrorCode::NotWellFormed, 0);
     }
     if unpaired < n {

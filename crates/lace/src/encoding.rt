@@ -13,10 +13,10 @@ ghost use lib.Seq.{sets};
 ghost use Rattle.basis.specs.Outcome.{bytesOutcome, done, bufferAfter};
 ghost use Rattle.base32.specs.Alphabet.{lace};
 ghost use Rattle.base32.specs.Base32.{quintetCount, charactersOf};
-ghost use Rattle.wire.specs.Bytes.{toBytes};
+ghost use Rattle.utf16.specs.Bytes.{bytesOfUnits};
 ghost use Rattle.lace.specs.Prefix.{prefix};
 ghost use Rattle.lace.specs.Encoding.{octetsOf};
-ghost use Rattle.lace.specs.Stepping.{sameHigh, runStep, runSteps, unitsOutcome};
+ghost use Rattle.lace.specs.Internal.{sameHigh, runStep, runSteps, unitsOutcome};
 
 // How many units from an index on have this high octet.
 fn run_length(units: &[u16], from: usize, high: u16) -> usize
@@ -71,14 +71,14 @@ fn put_runs(units: &[u16], octets: &mut [u8]) -> usize
     at
 }
 
-// Stores FF, lends the rest to the writer of all units, high octet first, and answers the count of octets.
+// Stores FF, passes the rest to the writer of all units, high octet first, and answers the count of octets.
 fn put_all(units: &[u16], octets: &mut [u8]) -> usize
     requires { ⌜ (length (now units) ≤ 34) × (2 * length (now units) + 1 ≤ length (now octets)) ⌝ }
     ensures { λ r. ⌜ r ≡ 2 * length (now (units .entry)) + 1 ⌝ }
-    ensures { λ _. ⌜ now (octets .exit) ≡ (0xff ∷ toBytes (now (units .entry))) ++ drop (2 * length (now (units .entry)) + 1) (now (octets .entry)) ⌝ }
+    ensures { λ _. ⌜ now (octets .exit) ≡ (0xff ∷ bytesOfUnits (now (units .entry))) ++ drop (2 * length (now (units .entry)) + 1) (now (octets .entry)) ⌝ }
 {
     octets[0] = 255;
-    let answer = wire::to_bytes(units, UnitCount(units.len()), &mut octets[1..]);
+    let answer = utf16::bytes::units_to_bytes(units, UnitCount(units.len()), &mut octets[1..]);
     1 + basis::bytes_written(answer)
 }
 
@@ -95,7 +95,7 @@ fn put_octets(units: &[u16], octets: &mut [u8]) -> usize
     put_all(units, octets)
 }
 
-// Stores the prefix, and lends the rest of the label to the Base32 writer.
+// Stores the prefix, and passes the rest of the label to the Base32 writer.
 fn put_label(octets: &[u8], label: &mut [u8]) -> BytesAnswer
     requires { ⌜ 4 + quintetCount (length (now octets)) ≤ length (now label) ⌝ }
     ensures { λ r. ⌜ bytesOutcome r ≡ done (4 + quintetCount (length (now (octets .entry)))) ⌝ }

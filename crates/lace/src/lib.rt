@@ -14,7 +14,7 @@ ghost use mathlib.Core.Path.{_≡_};
 ghost use lib.ListN.{length};
 ghost use Rattle.basis.specs.Outcome.{bytesOutcome, bufferAfter};
 ghost use Rattle.utf16.specs.Answer.{pointsOutcome};
-ghost use Rattle.lace.specs.Octets.{isAllLdh};
+ghost use Rattle.ascii.specs.Ldh.{isAllLdh};
 ghost use Rattle.lace.specs.Encoding.{labelOf};
 ghost use Rattle.lace.specs.Decoding.{textOf};
 ghost use Rattle.lace.specs.Answer.{encodeOutcome, decodeOutcome};
@@ -31,7 +31,7 @@ pub fn encode(text: &[u32], label: &mut [u8]) -> BytesAnswer
         }
         Check::Passed => {}
     }
-    let all_ldh = octets::text_all_ldh(text);
+    let all_ldh = ascii::text_all_ldh(text);
     if all_ldh {
         return basis::bytes_error(ErrorCode::AllLdh, 0);
     }
@@ -55,7 +55,7 @@ pub fn decode(label: &[u8], text: &mut [u32]) -> PointsAnswer
     ensures { λ _. ⌜ now (text .exit) ≡ bufferAfter (decodeOutcome isAllLdh (length (now (text .entry))) (now (label .entry))) (textOf (now (label .entry))) (now (text .entry)) ⌝ }
 {
     let check = labels::check_label(label.len(), text.len());
-    let prefixed = prefix::has_prefix(label);
+    let prefixed = ascii::has_prefix(label, &prefix::PREFIX);
     match check {
         Check::Error { code, position } => {
             return utf16::points_error(code, position);

@@ -1,37 +1,8 @@
-// Rows of points and units: LDH, and how many runs there are.
-use utf16::points;
+// How many runs the units have.
 ghost use mathlib.Core.Path.{_≡_};
 ghost use Prim.Native.Nat.{_≤_};
 ghost use lib.ListN.{length};
-ghost use Rattle.lace.specs.Octets.{isAllLdh, changeBetween, runCount};
-
-// Whether all points are LDH.
-pub(crate) fn text_all_ldh(text: &[u32]) -> bool
-    ensures { λ r. ⌜ r ≡ isAllLdh (now (text .entry)) ⌝ }
-{
-    let mut i = 0;
-    while i < text.len() {
-        if !points::is_ldh(text[i]) {
-            return false;
-        }
-        i += 1;
-    }
-    true
-}
-
-// Whether all units are LDH.
-pub(crate) fn units_all_ldh(units: &[u16]) -> bool
-    ensures { λ r. ⌜ r ≡ isAllLdh (now (units .entry)) ⌝ }
-{
-    let mut i = 0;
-    while i < units.len() {
-        if !points::is_ldh(units[i] as u32) {
-            return false;
-        }
-        i += 1;
-    }
-    true
-}
+ghost use Rattle.lace.specs.Octets.{changeBetween, runCount};
 
 // 1 where two units differ in high octet, else 0.
 fn change(before: u16, unit: u16) -> usize

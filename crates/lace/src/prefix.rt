@@ -1,39 +1,20 @@
-// The prefix lq--, stored first and known in either case.
-use base32::alphabet::small_form;
+// The prefix lq--, stored first.
 ghost use mathlib.Core.Path.{_≡_};
 ghost use mathlib.Core.List.{_++_};
 ghost use Prim.Native.Nat.{_≤_};
 ghost use lib.ListN.{length, drop};
-ghost use Rattle.lace.specs.Prefix.{prefix, hasPrefix};
+ghost use Rattle.lace.specs.Prefix.{prefix};
 
-// Whether the label begins with the prefix, case ignored.
-pub(crate) fn has_prefix(label: &[u8]) -> bool
-    ensures { λ r. ⌜ r ≡ hasPrefix (now (label .entry)) ⌝ }
-{
-    if label.len() < 4 {
-        return false;
-    }
-    let prefix = b"lq--";
-    if small_form(label[0]) != prefix[0] {
-        return false;
-    }
-    if small_form(label[1]) != prefix[1] {
-        return false;
-    }
-    if small_form(label[2]) != prefix[2] {
-        return false;
-    }
-    small_form(label[3]) == prefix[3]
-}
+// Stored first in a label, and known in either case.
+pub(crate) const PREFIX: [u8; 4] = *b"lq--";
 
 // Stores the prefix.
 pub(crate) fn put_prefix(label: &mut [u8])
     requires { ⌜ 4 ≤ length (now label) ⌝ }
     ensures { λ _. ⌜ now (label .exit) ≡ prefix ++ drop 4 (now (label .entry)) ⌝ }
 {
-    let prefix = b"lq--";
-    label[0] = prefix[0];
-    label[1] = prefix[1];
-    label[2] = prefix[2];
-    label[3] = prefix[3];
+    label[0] = PREFIX[0];
+    label[1] = PREFIX[1];
+    label[2] = PREFIX[2];
+    label[3] = PREFIX[3];
 }

@@ -8,13 +8,16 @@ use lib.ListN.{length, length-map}
 use borrow.Author.Tests.{eq-eqb, not-false}
 use native.Mathlib.Omega.{arith}
 use Rattle.basis.specs.Rows.{at, AllBelow}
-use Rattle.basis.specs.Case.{small, SameButCase}
 use Rattle.basis.specs.Causes.{whole, Absent, NoCause}
 use Rattle.basis.specs.Codec.{Writable}
 use Rattle.basis.proofs.Tests.{by-lt, true-not-false, both-true, fails-iff}
-use Rattle.basis.proofs.Case.{same-but-case, small-spelled}
 use Rattle.basis.proofs.Causes.{absent-whole, absent-first}
-use Rattle.basis.proofs.Codec.{Faithful, Ruled, read-alike}
+use Rattle.basis.proofs.Codec.{Faithful}
+use Rattle.ascii.specs.Case.{small, SameButCase}
+use Rattle.ascii.specs.Prefix.{hasPrefix, afterPrefix}
+use Rattle.ascii.proofs.Case.{same-but-case, small-spelled}
+use Rattle.ascii.proofs.Prefix.{prefix-front, prefix-long, prefix-spelled, after-front}
+use Rattle.ascii.proofs.Codec.{Ruled, read-alike}
 use Rattle.utf16.specs.Points.{isText}
 use Rattle.utf16.specs.Units.{toUnits, toPoints, firstUnpaired}
 use Rattle.utf16.proofs.Surrogates.{units-small, units-big}
@@ -25,14 +28,14 @@ use Rattle.base32.specs.Base32.{charactersOf}
 use Rattle.base32.specs.Answer.{firstOutside}
 use Rattle.base32.proofs.Inverse.{lace-alphabet}
 use Rattle.base32.proofs.RoundTrip.{written-inside, written-lawful, written-read, read-written}
-use Rattle.lace.specs.Prefix.{prefix, hasPrefix, afterPrefix}
+use Rattle.lace.specs.Prefix.{prefix}
 use Rattle.lace.specs.Encoding.{octetsOf, labelOf}
 use Rattle.lace.specs.Decoding.{labelOctets, labelUnits, isReadable, textOf}
+use Rattle.lace_facts.proofs.PrefixRule.{prefix-is-small, prefix-iff}
 use Rattle.lace_facts.specs.WellFormed.{WellFormed}
 use Rattle.lace_facts.specs.Causes.{labelCauses}
 use Rattle.lace_facts.specs.Codec.{codec}
 use Rattle.lace.proofs.EncodeLaws.{length-label}
-use Rattle.lace_facts.proofs.PrefixLaws.{prefix-iff, prefix-front, prefix-long, prefix-spelled, after-front}
 use Rattle.lace.proofs.Runs.{octets-below, units-few}
 use Rattle.lace_facts.proofs.UnitOctets.{stand-written, units-written, stand-read, units-below, units-some}
 use Rattle.lace_facts.proofs.Label.{Passes, passes-lawful, passes-stand, passes-paired, passes-case, passes-formed, formed-units, formed-passes, label-octets-below, units-case}
@@ -45,9 +48,9 @@ unfolding toUnits
 some-units [] h = h
 some-units (p ∷ t) h = by-lt p 0x10000 (λ g. rw (units-small p (toUnits t) g) (omega arith)) (λ g. rw (units-big p (toUnits t) g) (omega arith))
 
-after-label : (t : List ℕ) → afterPrefix (labelOf t) ≡ charactersOf lace (octetsOf (toUnits t))
+after-label : (t : List ℕ) → afterPrefix prefix (labelOf t) ≡ charactersOf lace (octetsOf (toUnits t))
 unfolding labelOf
-after-label t = after-front (charactersOf lace (octetsOf (toUnits t)))
+after-label t = after-front prefix (charactersOf lace (octetsOf (toUnits t)))
 
 -- the label of a text passes the tests, and its units are those of the text
 module _ (t : List ℕ) (some : 1 ≤ length t) (text : isText t ≡ true) (short : length (labelOf t) ≤ 63) where
@@ -71,7 +74,7 @@ module _ (t : List ℕ) (some : 1 ≤ length t) (text : isText t ≡ true) (shor
       let paired : firstUnpaired (labelUnits (labelOf t)) ≡ length (labelUnits (labelOf t)) = rw units-label (text-paired t text) in
       record {
         short = short;
-        first = prefix-front (charactersOf lace (octetsOf (toUnits t)));
+        first = prefix-front prefix (charactersOf lace (octetsOf (toUnits t)));
         inside = rw after-label (written-inside lace lace-alphabet (octetsOf (toUnits t)));
         readable = both-true (rw after-label (written-lawful lace lace-alphabet (octetsOf (toUnits t)) octets-small))
             (both-true (rw octets-label (stand-written (toUnits t) (text-units t text) (some-units t some) few))
@@ -101,8 +104,8 @@ module _ (l : List ℕ) (p : Passes l) where
   passes-spelled =
       ap (λ (us : List ℕ). prefix ++ charactersOf lace (octetsOf us)) passes-units
       ∙ ap (λ (os : List ℕ). prefix ++ charactersOf lace os) (stand-read (labelOctets l) (label-octets-below l) (passes-stand l p))
-      ∙ ap (λ (cs : List ℕ). prefix ++ cs) (read-written lace lace-alphabet (afterPrefix l) (p .inside) (passes-lawful l p))
-      ∙ sym (prefix-spelled l (p .first))
+      ∙ ap (λ (cs : List ℕ). prefix ++ cs) (read-written lace lace-alphabet (afterPrefix prefix l) (p .inside) (passes-lawful l p))
+      ∙ sym (prefix-spelled prefix l (p .first) ∙ ap (λ (cs : List ℕ). cs ++ map small (afterPrefix prefix l)) prefix-is-small)
 
 -- a well-formed label passes the tests, its units are not reserved, and its text spells it, case aside
 module _ (l : List ℕ) (w : WellFormed l) where
@@ -125,13 +128,13 @@ unfolding firstOutside
 well-formed-iff l = (
   λ n.
       let short = short-iff l .0 (n .1 .0) in
-      let first : hasPrefix l ≡ true = not-false _ (absent-whole (not (hasPrefix l)) (fails-iff (hasPrefix l) (prefix-iff l)) (n .1 .1 .0)) in
-      let inside = absent-first (length (afterPrefix l)) (λ k. not (isCharacter lace (at (afterPrefix l) k))) (λ i f. n .1 .1 .1 .0 (4 + i) (i, refl, f)) in
+      let first : hasPrefix prefix l ≡ true = not-false _ (absent-whole (not (hasPrefix prefix l)) (fails-iff (hasPrefix prefix l) (prefix-iff l)) (n .1 .1 .0)) in
+      let inside = absent-first (length (afterPrefix prefix l)) (λ k. not (isCharacter lace (at (afterPrefix prefix l) k))) (λ i f. n .1 .1 .1 .0 (4 + i) (i, refl, f)) in
       let readable : isReadable l ≡ true = not-false _ (absent-whole _ (unreadable-iff l short first inside) (n .1 .1 .1 .1 .0)) in
       passes-well l (record { short = short; first = first; inside = inside; readable = readable })
       (absent-whole _ (reserved-iff l short first inside readable) (n .1 .1 .1 .1 .1 .0)),
   λ w. (
-    some-iff l .1 (omega (arith, prefix-long l (formed-tested l w .first))),
+    some-iff l .1 (omega (arith, prefix-long prefix l (formed-tested l w .first))),
     (
       short-iff l .1 (omega (arith, w .formed .short)),
       (

@@ -10,10 +10,12 @@ use lib.Seq.{ext-getD}
 use borrow.Author.Tests.{eq-eqb, eqb-true}
 use native.Mathlib.Omega.{arith}
 use Rattle.basis.specs.Rows.{at, tabulate, AllBelow}
-use Rattle.basis.specs.Case.{small}
 use Rattle.basis.proofs.Tests.{both-left, both-right, both-true, at-each, none-iff, each-at, first-before, first-none}
 use Rattle.basis.proofs.Lists.{map-same, length-tabulate, at-tabulate, row-below}
-use Rattle.basis.proofs.Case.{small-small}
+use Rattle.ascii.specs.Case.{small}
+use Rattle.ascii.specs.Prefix.{hasPrefix, afterPrefix}
+use Rattle.ascii.proofs.Case.{small-small, at-small}
+use Rattle.ascii.proofs.Prefix.{prefix-small, after-small}
 use Rattle.utf16.specs.Units.{unpairedAt, firstUnpaired}
 use Rattle.utf16.proofs.RoundTrip.{length-toPoints}
 use Rattle.base32.specs.Alphabet.{lace, valueOf, isCharacter, valuesOf}
@@ -25,12 +27,12 @@ use Rattle.base32.proofs.Inverse.{value-same}
 use Rattle.base32.proofs.Bits.{fromBits-same, rowBit-lt, bits-back, row-back}
 use Rattle.base32.proofs.Regroup.{length-toOctets, toOctets-below, count-lawful}
 use Rattle.base32.proofs.Values.{length-values, octets-tabulate}
-use Rattle.lace.specs.Prefix.{hasPrefix, afterPrefix}
+use Rattle.lace.specs.Prefix.{prefix}
 use Rattle.lace.specs.Decoding.{unitsOf, standForUnits, labelOctets, labelUnits, isReadable, textOf}
 use Rattle.lace.proofs.Runs.{units-few}
 use Rattle.lace.proofs.DecodeLaws.{units-le}
+use Rattle.lace_facts.proofs.PrefixRule.{prefix-iff}
 use Rattle.lace_facts.specs.WellFormed.{OctetsIn, StandFor, Formed}
-use Rattle.lace_facts.proofs.PrefixLaws.{at-small, prefix-iff, prefix-small, after-small}
 use Rattle.lace_facts.proofs.UnitOctets.{stand-read, units-some}
 use Rattle.lace_facts.proofs.StandFor.{stand-units, form-stands, stands-form}
 
@@ -49,7 +51,7 @@ outside-small cs = simp (length-map, at-small, value-small)
 -- so do the octets and the units of a label, and the test of it
 octets-small : (l : List ℕ) → labelOctets (map small l) ≡ labelOctets l
 unfolding labelOctets
-octets-small l = ap toOctets (ap (valuesOf lace) (after-small l) ∙ values-small (afterPrefix l))
+octets-small l = ap toOctets (ap (valuesOf lace) (after-small prefix l) ∙ values-small (afterPrefix prefix l))
 
 units-small : (l : List ℕ) → labelUnits (map small l) ≡ labelUnits l
 unfolding labelUnits
@@ -57,7 +59,7 @@ units-small l = ap unitsOf (octets-small l)
 
 readable-small : (l : List ℕ) → isReadable (map small l) ≡ isReadable l
 unfolding isReadable
-readable-small l = rw (octets-small l, units-small l, after-small l, values-small (afterPrefix l))
+readable-small l = rw (octets-small l, units-small l, after-small prefix l, values-small (afterPrefix prefix l))
 
 -- what looks at the small forms alone is the same of labels that differ at most in case
 case-same : {A : Type 0} (f : List ℕ → A) → ((l : List ℕ) → f (map small l) ≡ f l) → (l k : List ℕ) → map small l ≡ map small k → f l ≡ f k
@@ -82,11 +84,11 @@ octets-are cs os o =
 -- the octets of a label are octets, and few
 pub label-octets-below : (l : List ℕ) → AllBelow 256 (labelOctets l)
 unfolding labelOctets
-label-octets-below l = toOctets-below (valuesOf lace (afterPrefix l))
+label-octets-below l = toOctets-below (valuesOf lace (afterPrefix prefix l))
 
-pub label-octets-count : (l : List ℕ) → length (labelOctets l) ≡ octetCount (length (afterPrefix l))
+pub label-octets-count : (l : List ℕ) → length (labelOctets l) ≡ octetCount (length (afterPrefix prefix l))
 unfolding labelOctets
-label-octets-count l = length-toOctets (valuesOf lace (afterPrefix l)) ∙ ap octetCount (length-values lace (afterPrefix l))
+label-octets-count l = length-toOctets (valuesOf lace (afterPrefix prefix l)) ∙ ap octetCount (length-values lace (afterPrefix prefix l))
 
 pub label-octets-few : (l : List ℕ) → length l ≤ 63 → length (labelOctets l) ≤ 36
 label-octets-few l h = omega (arith, label-octets-count l, length-drop 4 l)
@@ -100,32 +102,32 @@ unfolding textOf labelUnits
 text-fits l = omega (arith, length-toPoints (labelUnits l), units-le (labelOctets l), label-octets-count l, length-drop 4 l)
 
 -- characters of a lawful number, one or more, hold one octet or more
-lawful-some : (l : List ℕ) → 1 ≤ length (afterPrefix l) → lengthLawful (length (afterPrefix l)) ≡ true → 1 ≤ length (labelOctets l)
+lawful-some : (l : List ℕ) → 1 ≤ length (afterPrefix prefix l) → lengthLawful (length (afterPrefix prefix l)) ≡ true → 1 ≤ length (labelOctets l)
 lawful-some l some lawful =
-    let e : quintetCount (length (labelOctets l)) ≡ length (afterPrefix l) = rw label-octets-count (count-lawful (length (afterPrefix l)) lawful) in
+    let e : quintetCount (length (labelOctets l)) ≡ length (afterPrefix prefix l) = rw label-octets-count (count-lawful (length (afterPrefix prefix l)) lawful) in
     omega arith
 
 -- a label passes the tests
 pub record Passes (l : List ℕ) : Type 0 where
   pub short : length l ≤ 63
-  pub first : hasPrefix l ≡ true
-  pub inside : firstOutside lace (afterPrefix l) ≡ length (afterPrefix l)
+  pub first : hasPrefix prefix l ≡ true
+  pub inside : firstOutside lace (afterPrefix prefix l) ≡ length (afterPrefix prefix l)
   pub readable : isReadable l ≡ true
 
 -- so does a label that differs in case at most
 pub passes-case : (l k : List ℕ) → map small l ≡ map small k → Passes l → Passes k
 passes-case l k e p = record {
   short = let s = p .short in omega (arith, case-same length (λ l. length-map l small) l k e);
-  first = sym (case-same hasPrefix prefix-small l k e) ∙ p .first;
-  inside = sym (case-same (λ l. firstOutside lace (afterPrefix l)) (λ l. ap (firstOutside lace) (after-small l) ∙ outside-small (afterPrefix l)) l k e)
+  first = sym (case-same (hasPrefix prefix) (prefix-small prefix) l k e) ∙ p .first;
+  inside = sym (case-same (λ l. firstOutside lace (afterPrefix prefix l)) (λ l. ap (firstOutside lace) (after-small prefix l) ∙ outside-small (afterPrefix prefix l)) l k e)
       ∙ p .inside
-      ∙ case-same (λ l. length (afterPrefix l)) (λ l. ap length (after-small l) ∙ length-map (afterPrefix l) small) l k e;
+      ∙ case-same (λ l. length (afterPrefix prefix l)) (λ l. ap length (after-small prefix l) ∙ length-map (afterPrefix prefix l) small) l k e;
   readable = sym (case-same isReadable readable-small l k e) ∙ p .readable;
 }
 
 -- what a label that passes the tests holds
 module _ (l : List ℕ) (p : Passes l) where
-  pub passes-lawful : isLawful (valuesOf lace (afterPrefix l)) ≡ true
+  pub passes-lawful : isLawful (valuesOf lace (afterPrefix prefix l)) ≡ true
   unfolding isReadable
   passes-lawful = both-left _ _ (p .readable)
 
@@ -144,7 +146,7 @@ module _ (l units : List ℕ) (f : Formed l units) where
 
   octets-same : f .octets ≡ labelOctets l
   unfolding labelOctets
-  octets-same = octets-are (afterPrefix l) (f .octets) (f .octetsIn)
+  octets-same = octets-are (afterPrefix prefix l) (f .octets) (f .octetsIn)
 
   formed-stand : StandFor (labelOctets l) units
   formed-stand = rw octets-same at (f .standFor)
@@ -153,7 +155,7 @@ module _ (l units : List ℕ) (f : Formed l units) where
   unfolding labelUnits
   formed-units = stand-units (labelOctets l) units (label-octets-below l) (octets-short l formed-short) formed-stand
 
-  formed-lawful : isLawful (valuesOf lace (afterPrefix l)) ≡ true
+  formed-lawful : isLawful (valuesOf lace (afterPrefix prefix l)) ≡ true
   unfolding isLawful
   formed-lawful = both-true (rw length-values (f .lawful)) (f .spare)
 
@@ -202,7 +204,7 @@ passes-formed l p = record {
   lawful = rw length-values at (both-left _ _ (passes-lawful l p));
   spare = both-right _ _ (passes-lawful l p);
   octets = labelOctets l;
-  octetsIn = octets-in (afterPrefix l);
+  octetsIn = octets-in (afterPrefix prefix l);
   standFor = stands-form (labelOctets l) (label-octets-below l) (passes-stand l p);
   paired = λ i h. first-before (length (labelUnits l)) (unpairedAt 0 (labelUnits l)) i (rw (passes-paired l p) h);
 }

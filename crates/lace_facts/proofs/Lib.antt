@@ -1,8 +1,8 @@
 -- Theorems on LACE's definitions.
-pub mod PrefixLaws
 pub mod DistinctRuns
 pub mod UnitOctets
 pub mod StandFor
+pub mod PrefixRule
 pub mod Label
 pub mod Reserved
 pub mod Settled

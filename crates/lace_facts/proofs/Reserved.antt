@@ -1,25 +1,20 @@
 -- What LACE reserves for plain host names. The other laws ask of it only that it says the same of a text and of its units.
-use Prim.Native.Nat.{ℕ, _≤_}
-use mathlib.Core.Path.{_≡_, refl, sym, ap, _∙_}
-use mathlib.Core.Bool.{Bool, true, false}
+use Prim.Native.Nat.{ℕ}
+use mathlib.Core.Path.{_≡_, refl, ap}
+use mathlib.Core.Bool.{Bool, true}
 use mathlib.Core.List.{List, [], _∷_}
-use borrow.Author.Tests.{le-ltb}
 use native.Mathlib.Omega.{arith}
 use Rattle.basis.specs.Tests.{both, every}
 use Rattle.basis.proofs.Tests.{by-lt}
-use Rattle.utf16.specs.Points.{isText, isLdh}
+use Rattle.ascii.specs.Ldh.{isLdh, isAllLdh}
+use Rattle.ascii.proofs.Ldh.{ldh-above}
+use Rattle.utf16.specs.Points.{isText}
 use Rattle.utf16.specs.Units.{toUnits, highOf}
 use Rattle.utf16.proofs.Surrogates.{units-small, units-big}
-use Rattle.utf16.proofs.Ldh.{ldh-small}
-use Rattle.lace.specs.Octets.{isAllLdh}
 
 -- the predicate that the rules of form and the causes name
 abbrev pub reserved : List ℕ → Bool
 reserved = isAllLdh
-
--- what is above z is no LDH
-ldh-above : (x : ℕ) → 123 ≤ x → isLdh x ≡ false
-ldh-above x h = sym (ldh-small x (omega arith) (omega arith)) ∙ le-ltb x 123 h
 
 -- a text is LDH exactly if its units are: an LDH number is its own unit, and a high surrogate is none
 units-ldh : (t : List ℕ) → isAllLdh (toUnits t) ≡ isAllLdh t

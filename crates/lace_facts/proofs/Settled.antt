@@ -10,21 +10,22 @@ use Rattle.basis.specs.Rows.{at}
 use Rattle.basis.specs.Causes.{whole, placed, Settles}
 use Rattle.basis.proofs.Tests.{ltb-iff, fails-iff}
 use Rattle.basis.proofs.Causes.{settle-whole, settle-place, settle-done}
+use Rattle.ascii.specs.Prefix.{hasPrefix, afterPrefix}
 use Rattle.labels.proofs.FirstTests.{settle-text, settle-label}
 use Rattle.base32.specs.Alphabet.{lace, isCharacter}
 use Rattle.base32.specs.Answer.{firstOutside}
-use Rattle.lace.specs.Prefix.{hasPrefix, afterPrefix}
+use Rattle.lace.specs.Prefix.{prefix}
 use Rattle.lace.specs.Encoding.{labelOf}
+use Rattle.lace_facts.proofs.PrefixRule.{prefix-iff}
 use Rattle.lace_facts.specs.WellFormed.{Formed}
 use Rattle.lace.specs.Decoding.{isReadable, labelUnits, textOf}
 use Rattle.lace.specs.Answer.{encodeOutcome, decodeOutcome}
 use Rattle.lace_facts.specs.Causes.{OutsideAfterPrefix, NotFormed, OnlyAllLdh, textCauses, labelCauses}
-use Rattle.lace_facts.proofs.PrefixLaws.{prefix-iff}
 use Rattle.lace_facts.proofs.Label.{Passes, passes-formed, formed-units, formed-iff}
 use Rattle.lace_facts.proofs.Reserved.{reserved}
 
--- given the earlier tests, the later ones fail exactly where their causes stand
-module _ (l : List ℕ) (short : length l ≤ 63) (first : hasPrefix l ≡ true) (inside : firstOutside lace (afterPrefix l) ≡ length (afterPrefix l)) where
+-- given the earlier tests, the later ones fail exactly where their causes hold
+module _ (l : List ℕ) (short : length l ≤ 63) (first : hasPrefix prefix l ≡ true) (inside : firstOutside lace (afterPrefix prefix l) ≡ length (afterPrefix prefix l)) where
   passes : isReadable l ≡ true → Passes l
   passes e = record { short = short; first = first; inside = inside; readable = e }
 
@@ -44,10 +45,10 @@ pub decode-settled : (capacity : ℕ) (l : List ℕ) → Settles (whole 1 (capac
 unfolding decodeOutcome firstOutside
 decode-settled capacity l =
     settle-label capacity l
-    (λ _ short. settle-whole _ 8 (fails-iff (hasPrefix l) (prefix-iff l))
+    (λ _ short. settle-whole _ 8 (fails-iff (hasPrefix prefix l) (prefix-iff l))
     (λ p.
     let first = not-false _ p in
-    settle-place (length (afterPrefix l)) (λ k. not (isCharacter lace (at (afterPrefix l) k))) (placed 7 (OutsideAfterPrefix l)) (λ i. 4 + i) (λ i h. (i, refl, h)) (λ p h. h)
+    settle-place (length (afterPrefix prefix l)) (λ k. not (isCharacter lace (at (afterPrefix prefix l) k))) (placed 7 (OutsideAfterPrefix l)) (λ i. 4 + i) (λ i h. (i, refl, h)) (λ p h. h)
     (λ inside. settle-whole _ 9 (unreadable-iff l short first inside)
     (λ r. settle-whole _ 6 (reserved-iff l short first inside (not-false _ r))
     (λ _. settle-done (length (textOf l)))))))

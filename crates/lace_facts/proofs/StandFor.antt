@@ -10,8 +10,8 @@ use native.Mathlib.Omega.{arith}
 use Rattle.basis.specs.Rows.{at, AllBelow}
 use Rattle.basis.proofs.Tests.{by-lt}
 use Rattle.basis.proofs.Lists.{below-tail}
-use Rattle.wire.specs.Bytes.{toBytes}
-use Rattle.wire.proofs.RoundTrip.{length-toBytes}
+use Rattle.utf16.specs.Bytes.{bytesOfUnits}
+use Rattle.utf16.proofs.BytePairs.{length-bytesOfUnits}
 use Rattle.lace.specs.Octets.{unitOf, Run, run, runUnits, runCount}
 use Rattle.lace.specs.Encoding.{longestRuns, runOctets, octetsOf}
 use Rattle.lace.specs.Decoding.{unitsOf, standForUnits}
@@ -22,8 +22,8 @@ use Rattle.lace_facts.proofs.UnitOctets.{written-runs, written-all, uni
 
 -- octets in pairs, each of which makes a unit, are the bytes of the units
 pairs-bytes : (units pairs : List ℕ) → AllBelow 256 pairs → length pairs ≡ 2 * length units
-    → ((i : ℕ) → i < length units → at units i ≡ unitOf (at pairs (2 * i)) (at pairs (1 + 2 * i))) → pairs ≡ toBytes units
-unfolding toBytes
+    → ((i : ℕ) → i < length units → at units i ≡ unitOf (at pairs (2 * i)) (at pairs (1 + 2 * i))) → pairs ≡ bytesOfUnits units
+unfolding bytesOfUnits
 pairs-bytes [] [] b n e = refl
 pairs-bytes [] (x ∷ pairs) b n e = absurd (omega arith)
 pairs-bytes (u ∷ units) [] b n e = absurd (omega arith)
@@ -41,7 +41,7 @@ pairs-bytes (u ∷ units) (high ∷ low ∷ pairs) b n e =
         let k : 1 + 2 * suc i ≡ suc (suc (1 + 2 * i)) = omega arith in
         rw (k, j) at (e (suc i) (omega arith))
 
-all-octets : (octets units : List ℕ) → AllBelow 256 octets → AllUnits octets units → octets ≡ 0xff ∷ toBytes units
+all-octets : (octets units : List ℕ) → AllBelow 256 octets → AllUnits octets units → octets ≡ 0xff ∷ bytesOfUnits units
 all-octets [] units b a = absurd (omega (arith, a .count))
 all-octets (x ∷ octets) units b a =
     let first : x ≡ 0xff = omega (arith, a .first) in
@@ -121,8 +121,8 @@ form-stands os units b some n s =
     ap standForUnits (sym w) ∙ stand-written units below one (omega (arith, units-few units one, ap length w))
 
 -- the bytes of units make them, pair by pair
-bytes-pairs : (units : List ℕ) (i : ℕ) → i < length units → at units i ≡ unitOf (at (toBytes units) (2 * i)) (at (toBytes units) (1 + 2 * i))
-unfolding toBytes
+bytes-pairs : (units : List ℕ) (i : ℕ) → i < length units → at units i ≡ unitOf (at (bytesOfUnits units) (2 * i)) (at (bytesOfUnits units) (1 + 2 * i))
+unfolding bytesOfUnits
 bytes-pairs [] i h = absurd (omega arith)
 bytes-pairs (u ∷ units) zero h = omega arith
 bytes-pairs (u ∷ units) (suc i) h =
@@ -130,10 +130,10 @@ bytes-pairs (u ∷ units) (suc i) h =
     let k : 1 + 2 * suc i ≡ suc (suc (1 + 2 * i)) = omega arith in
     rw (k, j) (bytes-pairs units i (omega arith))
 
-octets-all : (units : List ℕ) → 1 ≤ length units → length units < 2 * runCount units → AllUnits (0xff ∷ toBytes units) units
-octets-all units some many = record { first = refl; count = omega (arith, length-toBytes units); pairs = pairs; some = some; many = many }
+octets-all : (units : List ℕ) → 1 ≤ length units → length units < 2 * runCount units → AllUnits (0xff ∷ bytesOfUnits units) units
+octets-all units some many = record { first = refl; count = omega (arith, length-bytesOfUnits units); pairs = pairs; some = some; many = many }
   where
-    pairs : (i : ℕ) → i < length units → at units i ≡ unitOf (at (0xff ∷ toBytes units) (1 + 2 * i)) (at (0xff ∷ toBytes units) (2 + 2 * i))
+    pairs : (i : ℕ) → i < length units → at units i ≡ unitOf (at (0xff ∷ bytesOfUnits units) (1 + 2 * i)) (at (0xff ∷ bytesOfUnits units) (2 + 2 * i))
     pairs i h =
         let j : 1 + 2 * i ≡ suc (2 * i) = omega arith in
         let k : 2 + 2 * i ≡ suc (1 + 2 * i) = omega arith in

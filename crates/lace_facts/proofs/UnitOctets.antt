@@ -12,9 +12,8 @@ use Rattle.basis.specs.Tests.{both}
 use Rattle.basis.specs.Rows.{at, AllBelow}
 use Rattle.basis.proofs.Tests.{cases, by-lt, both-left, both-right, both-true, true-not-false}
 use Rattle.basis.proofs.Lists.{below-none, below-more, below-tail, below-right}
-use Rattle.wire.specs.Bytes.{toBytes}
-use Rattle.wire.proofs.RoundTrip.{length-toBytes, units-back, bytes-back}
-use Rattle.wire.proofs.RoundTrip as wire
+use Rattle.utf16.specs.Bytes.{bytesOfUnits}
+use Rattle.utf16.proofs.BytePairs.{length-bytesOfUnits, unitsOfBytes-bytesOfUnits, bytesOfUnits-unitsOfBytes, below-unitsOfBytes}
 use Rattle.lace.specs.Octets.{unitOf, Run, run, runUnits, runCount}
 use Rattle.lace.specs.Encoding.{longestRuns, runOctets, octetsOf}
 use Rattle.lace_facts.specs.WellFormed.{Counted, Differ}
@@ -52,7 +51,7 @@ runs-read previous (run h [] ∷ rs) c = absurd (omega (arith, counted-some h []
 runs-read previous (run h (l ∷ lows) ∷ rs) c =
     lows-read h l lows (runOctets rs) ∙ ap (λ (us : List ℕ). map (unitOf h) (l ∷ lows) ++ us) (runs-read h rs (c .1))
 
--- and stand as runs
+-- and are runs
 runs-stand : (previous : ℕ) (rs : List Run) → Counted rs → Differ rs → Apart previous rs → AllBelow 256 (runOctets rs) → (previous ≡ 256 → 1 ≤ length rs)
     → areRuns (Count previous) (runOctets rs) ≡ true
 unfolding areRuns mayStand mayEnd placeAfter runOctets Counted
@@ -71,14 +70,14 @@ pub written-runs : (us : List ℕ) → 2 * runCount us ≤ length us → octetsO
 unfolding octetsOf
 written-runs us h = rw runs-count (rw (le-leb (2 * runCount us + length us) (2 * length us) (omega arith)))
 
-pub written-all : (us : List ℕ) → length us < 2 * runCount us → octetsOf us ≡ 0xff ∷ toBytes us
+pub written-all : (us : List ℕ) → length us < 2 * runCount us → octetsOf us ≡ 0xff ∷ bytesOfUnits us
 unfolding octetsOf
 written-all us h = rw runs-count (rw (lt-leb (2 * runCount us + length us) (2 * length us) (omega arith)))
 
 -- the units of either form
-pub units-all : (us : List ℕ) → unitsOf (0xff ∷ toBytes us) ≡ us
+pub units-all : (us : List ℕ) → unitsOf (0xff ∷ bytesOfUnits us) ≡ us
 unfolding unitsOf
-units-all us = units-back us
+units-all us = unitsOfBytes-bytesOfUnits us
 
 begins-count : (rs : List Run) → length (runUnits rs) ≤ 254 → beginsFF (runOctets rs) ≡ false
 unfolding runOctets runUnits
@@ -113,7 +112,7 @@ unfolding standForUnits
 stand-written us b some few =
     rw (units-written us b few some)
     (by-lt (length us) (2 * runCount us)
-    (λ h. rw (written-all us h) (both-true (eq-eqb (suc (length (toBytes us)) % 2) 1 (omega (arith, length-toBytes us))) (lt-ltb _ _ h)))
+    (λ h. rw (written-all us h) (both-true (eq-eqb (suc (length (bytesOfUnits us)) % 2) 1 (omega (arith, length-bytesOfUnits us))) (lt-ltb _ _ h)))
     (λ h.
     let e = written-runs us h in
     let below = rw e at (octets-below us b few) in
@@ -214,7 +213,7 @@ unfolding unitsOf
 read-all [] b f odd many = absurd (omega arith)
 read-all (x ∷ os) b f odd many =
     written-all (unitsOf (x ∷ os)) many
-    ∙ ap₂ _∷_ (sym (eqb-true x 255 f)) (rw f (bytes-back os (below-tail 256 x os b) (omega arith)))
+    ∙ ap₂ _∷_ (sym (eqb-true x 255 f)) (rw f (bytesOfUnits-unitsOfBytes os (below-tail 256 x os b) (omega arith)))
 
 read-runs : (os : List ℕ) → AllBelow 256 os → beginsFF os ≡ false → MoreRuns 256 os → 2 * runCount (unitsOf os) ≤ length (unitsOf os) → octetsOf (unitsOf os) ≡ os
 unfolding unitsOf
@@ -250,7 +249,7 @@ pub units-below : (os : List ℕ) → AllBelow 256 os → AllBelow 0x10000 (unit
 unfolding unitsOf
 units-below os b =
     cases (beginsFF os)
-    (λ f. rw f (wire.units-below (drop 1 os) (λ i h. rw (getD-drop 1 os i 0) (b (1 + i) (omega (arith, length-drop 1 os))))))
+    (λ f. rw f (below-unitsOfBytes (drop 1 os) (λ i h. rw (getD-drop 1 os i 0) (b (1 + i) (omega (arith, length-drop 1 os))))))
     (λ f. rw f (from-below (Count 256) os tt b))
 
 -- one at least

@@ -4,14 +4,15 @@ use mathlib.Core.Path.{_≡_}
 use mathlib.Core.Bool.{true}
 use mathlib.Core.List.{List, [], _∷_}
 use Rattle.basis.specs.Rows.{at}
-use Rattle.basis.specs.Case.{small}
 use Rattle.basis.specs.Causes.{Cause, whole, placed}
+use Rattle.ascii.specs.Case.{small}
+use Rattle.ascii.specs.Prefix.{afterPrefix}
+use Rattle.ascii.specs.Ldh.{isAllLdh}
 use Rattle.labels.specs.Causes.{TooLong}
 use Rattle.labels.specs.Causes as labels
 use Rattle.base32.specs.Alphabet.{lace}
 use Rattle.base32.specs.Causes.{OutsideAt}
-use Rattle.lace.specs.Prefix.{prefix, afterPrefix}
-use Rattle.lace.specs.Octets.{isAllLdh}
+use Rattle.lace.specs.Prefix.{prefix}
 use Rattle.lace.specs.Encoding.{labelOf}
 use Rattle.lace_facts.specs.WellFormed.{Formed}
 
@@ -21,7 +22,7 @@ NoPrefix l = ((i : ℕ) → i < 4 → small (at l i) ≡ at prefix i) → ⊥
 
 -- 7: a byte after the prefix that is none of the 32, the first at this index of the label
 abbrev pub OutsideAfterPrefix : List ℕ → ℕ → Type 0
-OutsideAfterPrefix l position = (i : ℕ) × (position ≡ 4 + i) × OutsideAt lace (afterPrefix l) i
+OutsideAfterPrefix l position = (i : ℕ) × (position ≡ 4 + i) × OutsideAt lace (afterPrefix prefix l) i
 
 -- 9: not admitted by the rules of form, the last aside
 abbrev pub NotFormed : List ℕ → Type 0

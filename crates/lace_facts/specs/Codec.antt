@@ -1,8 +1,8 @@
 -- LACE as a codec, of which the demands speak.
 use mathlib.Core.Path.{_≡_}
-use Rattle.basis.specs.Case.{SameButCase}
 use Rattle.basis.specs.Codec.{Codec}
-use Rattle.lace.specs.Octets.{isAllLdh}
+use Rattle.ascii.specs.Case.{SameButCase}
+use Rattle.ascii.specs.Ldh.{isAllLdh}
 use Rattle.lace.specs.Encoding.{labelOf}
 use Rattle.lace.specs.Decoding.{textOf}
 use Rattle.lace.specs.Answer.{encodeOutcome, decodeOutcome}

@@ -6,13 +6,15 @@ use mathlib.Core.Logic.{_⊎_}
 use mathlib.Core.List.{List, [], _∷_}
 use lib.ListN.{length}
 use Rattle.basis.specs.Rows.{at, AllBelow}
-use Rattle.basis.specs.Case.{small}
+use Rattle.ascii.specs.Case.{small}
+use Rattle.ascii.specs.Prefix.{afterPrefix}
+use Rattle.ascii.specs.Ldh.{isAllLdh}
 use Rattle.utf16.specs.Surrogates.{unpairedAt}
 use Rattle.base32.specs.Alphabet.{lace, isCharacter, valuesOf}
 use Rattle.base32.specs.Bits.{rowBit}
 use Rattle.base32.specs.Form.{octetCount, lengthLawful, spareZero}
-use Rattle.lace.specs.Prefix.{prefix, afterPrefix}
-use Rattle.lace.specs.Octets.{unitOf, Run, run, runUnits, runCount, isAllLdh}
+use Rattle.lace.specs.Prefix.{prefix}
+use Rattle.lace.specs.Octets.{unitOf, Run, run, runUnits, runCount}
 
 -- the octets are the whole octets of the characters' bits
 pub record OctetsIn (characters octets : List ℕ) : Type 0 where
@@ -66,12 +68,12 @@ StandFor octets units = AllUnits octets units ⊎ InRuns octets units
 pub record Formed (l units : List ℕ) : Type 0 where
   pub short : length l ≤ 63
   pub first : (i : ℕ) → i < 4 → small (at l i) ≡ at prefix i
-  pub characters : (i : ℕ) → i < length (afterPrefix l) → isCharacter lace (at (afterPrefix l) i) ≡ true
-  pub some : 1 ≤ length (afterPrefix l)
-  pub lawful : lengthLawful (length (afterPrefix l)) ≡ true
-  pub spare : spareZero (valuesOf lace (afterPrefix l)) ≡ true
+  pub characters : (i : ℕ) → i < length (afterPrefix prefix l) → isCharacter lace (at (afterPrefix prefix l) i) ≡ true
+  pub some : 1 ≤ length (afterPrefix prefix l)
+  pub lawful : lengthLawful (length (afterPrefix prefix l)) ≡ true
+  pub spare : spareZero (valuesOf lace (afterPrefix prefix l)) ≡ true
   pub octets : List ℕ
-  pub octetsIn : OctetsIn (afterPrefix l) octets
+  pub octetsIn : OctetsIn (afterPrefix prefix l) octets
   pub standFor : StandFor octets units
   pub paired : (i : ℕ) → i < length units → unpairedAt 0 units i ≡ false
 

@@ -37,7 +37,7 @@ module _ (old : List ℕ) (held : ℕ) (part now : List ℕ) (n i : ℕ) (h : Ho
       next : take (n + 1) (set now n (getD part i 0)) ++ drop (i + 1) part ≡ take n now ++ drop i part
       next = rw (add-one n, add-one i, take-suc-set now n (getD part i 0), append-assoc (take n now), drop-cons part i 0)
 
-  -- the bytes held stand in front, and behind them what was there
+  -- the bytes held are in front, and behind them what was there
   held-stand : (whole : List ℕ) → whole ≡ take n now → (n ≡ length whole) × (now ≡ inFront whole old)
   held-stand whole e =
       let long : n ≡ length whole = sym (ap length e ∙ length-take-le n now (omega (arith, h .long, h .fits))) in (

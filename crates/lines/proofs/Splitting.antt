@@ -9,7 +9,7 @@ use Rattle.lines.specs.Lines.{isLineFeed, toFirst, withByte, linesOf}
 use Rattle.lines.specs.Run.{heldThen, endedBy, endedIn, heldIn, endedInAll, heldInAll, lastLine, runLines}
 use Rattle.lines.proofs.Holding.{take-held}
 
--- the lines of an input before whose first line some bytes stand
+-- the lines of an input that begins with some bytes of its first line
 abbrev linesAfter : List ℕ → List (List ℕ) → List (List ℕ)
 linesAfter before lines = foldr toFirst lines before
 

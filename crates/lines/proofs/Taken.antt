@@ -7,8 +7,8 @@ use native.Mathlib.Omega.{arith}
 use Rattle.basis.proofs.Parts.{front-fits, front-long}
 use Rattle.lines.specs.Step.{lineEnd, heldAfter, inFront, stepAnswer}
 use Rattle.lines.specs.declared.LineStep.{LineStep}
-use Rattle.lines.specs.declared.LineStep.the-variants.{Ended, More}
-use Rattle.lines.proofs.Stepping.{answers-ended, answers-more, held-few}
+use Rattle.lines.specs.declared.LineStep.the-variants.{Ended}
+use Rattle.lines.proofs.Stepping.{answers-ended, held-few}
 
 module _ (chunk line : List ℕ) (held from : ℕ) (now : List ℕ) (is : now ≡ inFront (heldAfter (length line) (take held line) (drop from chunk)) line) where
   abbrev left : List ℕ
@@ -25,10 +25,6 @@ module _ (chunk line : List ℕ) (held from : ℕ) (now : List ℕ) (is : now �
   line-kept = omega (arith, few, ap length is, length-append holding (drop (length holding) line), length-drop (length holding) line)
 
   module _ (answer : LineStep) (e : answer ≡ stepAnswer from left (length holding)) where
-    -- the chunk ended before the line
-    pub rest-fits : (n : ℕ) → answer ≡ More n → n ≤ length line
-    rest-fits n g = omega (arith, few, answers-more from left (length holding) n (sym g ∙ e) .1)
-
     -- the line ended
     module _ (next n : ℕ) (g : answer ≡ Ended next n) where
       pub ended : (lineEnd left < length left) × (next ≡ from + lineEnd left + 1) × (n ≡ length holding)

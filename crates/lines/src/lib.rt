@@ -1,4 +1,4 @@
-// Splitting input that comes in chunks into lines, in a lent buffer that holds the first bytes of a line.
+// Splitting input that comes in chunks into lines, in a buffer that holds the first bytes of a line.
 ghost use mathlib.Core.Path.{_≡_};
 ghost use mathlib.Core.List.{_++_};
 ghost use Prim.Native.Nat.{_≤_, min};

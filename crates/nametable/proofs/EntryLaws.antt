@@ -1,20 +1,21 @@
--- Laws on one entry: each test answers in its turn, and what a good entry holds.
-use Prim.Native.Nat.{ℕ, zero, suc, _+_, _-_, _≤_, _<_}
-use mathlib.Core.Path.{_≡_, refl, sym, _∙_}
+-- Laws on one entry: the tests of its form, its parts as they are read, and what reading it by
+-- itself answers.
+use Prim.Native.Nat.{ℕ, _+_, _-_, _≤_, _<_}
+use mathlib.Core.Path.{_≡_, refl, sym, ap, _∙_}
 use mathlib.Core.Bool.{Bool, true, false, not}
 use mathlib.Core.List.{List}
-use lib.Dec.{eqb}
+use lib.Dec.{eqb, ltb}
 use lib.ListN.{length, take, drop, length-drop}
-use lib.Seq.{length-take-le, take-all, getD-drop}
-use borrow.Author.Tests.{lt-ltb, le-ltb, not-true, not-false}
+use lib.Seq.{take-all, getD-drop}
 use native.Mathlib.Omega.{arith}
-use Rattle.basis.specs.Tests.{every, everyIn, within}
+use Rattle.basis.specs.Tests.{everyIn, within}
 use Rattle.basis.specs.Rows.{at}
-use Rattle.basis.specs.Outcome.{Outcome, done, refused, refusedIf}
-use Rattle.basis.proofs.Tests.{within-true, within-high}
-use Rattle.basis.proofs.Outcome.{passed}
-use Rattle.basis.proofs.Codec.{decode-settled}
+use Rattle.basis.specs.Outcome.{Outcome, done, refused, refusedIf, andThen, numberOf, bufferAfter}
 use Rattle.basis.specs.declared.ErrorCode.{ErrorCode}
+use Rattle.basis.proofs.Tests.{within-true, within-below, within-above, every-same}
+use Rattle.basis.proofs.Outcome.{stop-if, pass-if, stop-below, pass-below}
+use Rattle.basis.proofs.Causes.{settled-once}
+use Rattle.basis.proofs.Codec.{decode-settled}
 use Rattle.utf16.specs.Answer.{pointsOutcome}
 use Rattle.utf16.specs.declared.PointCount.{PointCount}
 use Rattle.utf16.specs.declared.PointsAnswer.{PointsAnswer}
@@ -22,26 +23,24 @@ use Rattle.utf16.specs.declared.PointsAnswer.the-variants as points
 use Rattle.scheme.specs.Naming.{kindNames, isKnown, schemeNamed}
 use Rattle.scheme.specs.Coding.{codecOf, decodeOutcome, textOf}
 use Rattle.scheme.specs.declared.Scheme.{Scheme}
+use Rattle.scheme.specs.declared.Named.{Named}
 use Rattle.scheme.specs.declared.Named.the-variants.{Known, Unknown}
-use Rattle.scheme.proofs.Coding.{faithful, decoded-readable}
-use Rattle.nametable.specs.Format.{entryLength, labelCapacity, labelStart, numberAt, kindOf, readerOf, lengthOf, labelIn, isFilled, schemeIn}
-use Rattle.nametable.specs.Answer.{labelJudged, entryJudged}
-use Rattle.nametable.specs.Stepping.{judgedOutcome, Good}
-use Rattle.nametable.specs.declared.entries.Judged.the-variants.{Reader, Bad}
+use Rattle.scheme.proofs.Coding.{faithful, decoded-count}
+use Rattle.nametable.specs.Format.{entryLength, labelCapacity, textCapacity, labelStart, lengthStart, numberAt, readerStart, kindOf, readerOf, lengthOf, labelIn, isFilled, schemeIn}
+use Rattle.nametable.specs.Answer.{formTests, entryJudged, textIn, entryRead, entryOutcome, entryFrom}
+use Rattle.nametable.specs.Internal.{Tested}
+use Rattle.nametable.specs.declared.entries.Form.the-variants.{Lawful, Malformed}
+use Rattle.nametable.specs.declared.EntryAnswer.{EntryAnswer}
+use Rattle.nametable.specs.declared.EntryAnswer.the-variants as answer
 
--- a kind that names no scheme
-pub unknown-kind : (least : ℕ) (e : List ℕ) → kindNames (kindOf e) ≡ Unknown → entryJudged least e ≡ refused 14 0
-unfolding entryJudged refusedIf isKnown
-unknown-kind least e k = rw k
+-- the scheme that the kind names
+scheme-is : (e : List ℕ) {named : Named} {s : Scheme} → named ≡ kindNames (at e 0) → named ≡ Known s → schemeIn e ≡ s
+unfolding schemeIn schemeNamed kindOf
+scheme-is e kind is = rw (← kind, is)
 
--- the bytes after the label
-every-same : (n : ℕ) (f g : ℕ → Bool) → ((k : ℕ) → k < n → f k ≡ g k) → every n f ≡ every n g
-unfolding every
-every-same zero f g h = refl
-every-same (suc n) f g h = rw (h zero (omega arith), every-same n (λ i. f (suc i)) (λ i. g (suc i)) (λ k l. h (suc k) (omega arith)))
-
-pub filled-part : (e : List ℕ) (zeros : Bool) → length e ≡ entryLength → at e 3 ≤ labelCapacity
-    → zeros ≡ everyIn (λ b. eqb b 0) (take (length e - (labelStart + at e 3)) (drop (labelStart + at e 3) e)) → isFilled e ≡ zeros
+-- the bytes after the label, as the part of the entry that is tested
+filled-part : (e : List ℕ) (zeros : Bool) → length e ≡ entryLength → at e lengthStart ≤ labelCapacity
+    → zeros ≡ everyIn (λ b. eqb b 0) (take (length e - (labelStart + at e lengthStart)) (drop (labelStart + at e lengthStart) e)) → isFilled labelCapacity e ≡ zeros
 unfolding isFilled lengthOf
 filled-part e zeros long short z =
     let part : take (length e - (4 + at e 3)) (drop (4 + at e 3) e) ≡ drop (4 + at e 3) e
@@ -49,96 +48,90 @@ filled-part e zeros long short z =
     let size : length (drop (4 + at e 3) e) ≡ 63 - at e 3 = length-drop (4 + at e 3) e ∙ omega arith in
     rw (z, part, size) (every-same (63 - at e 3) (λ i. eqb (at e (4 + at e 3 + i)) 0) (λ i. eqb (at (drop (4 + at e 3) e) i) 0) (λ i h. rw (getD-drop (4 + at e 3) e i 0)))
 
--- the label of a whole entry has as many bytes as its length says
-pub label-long : (e : List ℕ) → length e ≡ entryLength → lengthOf e ≤ labelCapacity → length (labelIn e) ≡ lengthOf e
-unfolding labelIn
-label-long e long short = length-take-le (lengthOf e) (drop 4 e) (simp length-drop (omega arith))
+-- the tests of the form in their turn, by what the code tested
+module _ (least : ℕ) (e : List ℕ) {named : Named} (kind : named ≡ kindNames (at e 0)) where
+  pub unknown-kind : named ≡ Unknown → Tested least e Malformed
+  unfolding formTests kindOf isKnown
+  unknown-kind is next = stop-if 14 0 _ _ (rw (← kind, is))
+
+  module _ {s : Scheme} (is : named ≡ Known s) {reader : ℕ} (number : reader ≡ numberAt e readerStart) where
+    abbrev byFilling : Outcome → Outcome
+    byFilling next = refusedIf (not (isFilled labelCapacity e)) 14 0 next
+
+    by-number : (next : Outcome) → formTests labelCapacity least e next ≡ refusedIf (ltb reader least) 14 0 (refusedIf (not (within 1 labelCapacity (at e lengthStart))) 14 0 (byFilling next))
+    unfolding formTests kindOf readerOf lengthOf isKnown
+    by-number next = rw number (pass-if 14 0 _ _ (rw (← kind, is)))
+
+    pub number-below : reader < least → Tested least e Malformed
+    number-below h next = by-number next ∙ stop-below 14 0 _ _ _ h
+
+    module _ (rising : least ≤ reader) where
+      pub no-label : at e lengthStart < 1 → Tested least e Malformed
+      no-label h next = by-number next ∙ pass-below 14 0 _ _ _ rising ∙ stop-if 14 0 _ _ (ap not (within-below 1 labelCapacity _ h))
+
+      pub long-label : labelCapacity < at e lengthStart → Tested least e Malformed
+      long-label h next = by-number next ∙ pass-below 14 0 _ _ _ rising ∙ stop-if 14 0 _ _ (ap not (within-above 1 labelCapacity _ h))
+
+      module _ (some : 1 ≤ at e lengthStart) (short : at e lengthStart ≤ labelCapacity) (long : length e ≡ entryLength) {zeros : Bool}
+          (tested : zeros ≡ everyIn (λ b. eqb b 0) (take (length e - (labelStart + at e lengthStart)) (drop (labelStart + at e lengthStart) e))) where
+        by-filling : (next : Outcome) → formTests labelCapacity least e next ≡ refusedIf (not zeros) 14 0 next
+        by-filling next =
+            by-number next ∙ pass-below 14 0 _ _ _ rising ∙ pass-if 14 0 _ _ (ap not (within-true 1 labelCapacity _ some short))
+            ∙ ap (λ (b : Bool). refusedIf (not b) 14 0 next) (filled-part e zeros long short tested)
+
+        pub not-filled : not zeros ≡ true → Tested least e Malformed
+        not-filled h next = by-filling next ∙ stop-if 14 0 _ _ h
+
+        pub lawful-form : not zeros ≡ false → Tested least e (Lawful s reader (labelStart + at e lengthStart))
+        unfolding readerOf lengthOf
+        lawful-form h = (λ next. by-filling next ∙ pass-if 14 0 _ _ h, scheme-is e kind is, sym number, refl, short)
 
 -- the label, as the part of the entry that is read
-pub label-part : (e : List ℕ) → take (labelStart + at e 3 - labelStart) (drop labelStart e) ≡ labelIn e
-unfolding labelIn lengthOf
-label-part e = let n : 4 + at e 3 - 4 ≡ at e 3 = omega arith in rw n
+label-part : (e : List ℕ) (end : ℕ) → end ≡ labelStart + lengthOf e → take (end - labelStart) (drop labelStart e) ≡ labelIn e
+unfolding labelIn
+label-part e end is = let n : end - 4 ≡ lengthOf e = omega arith in rw n
 
--- the tests on an entry whose kind names a scheme, and whose reader number is this
-module _ (s : Scheme) (least : ℕ) (e : List ℕ) (kind : kindNames (kindOf e) ≡ Known s) (reader : ℕ) (is : reader ≡ numberAt e 1) where
-  pub not-rising : reader < least → entryJudged least e ≡ refused 14 0
-  unfolding entryJudged refusedIf isKnown readerOf
-  not-rising h = rw (kind, ← is, lt-ltb reader least h)
+-- a label decodes alike at any capacity of 63 or more
+decode-room : (s : Scheme) (l : List ℕ) (capacity : ℕ) → textCapacity ≤ capacity → decodeOutcome s textCapacity l ≡ decodeOutcome s capacity l
+decode-room s l capacity room =
+    settled-once _ _ (decode-settled (codecOf s) (faithful s) textCapacity l (omega arith)) (decode-settled (codecOf s) (faithful s) capacity l room)
 
-  module _ (rising : least ≤ reader) where
-    pub not-sized : within 1 labelCapacity (at e 3) ≡ false → entryJudged least e ≡ refused 14 0
-    unfolding entryJudged refusedIf isKnown readerOf lengthOf
-    not-sized h = rw (kind, ← is, le-ltb reader least rising, h)
+-- an answer with an error: it is the refusal, and the buffer is as before
+pub refusal-answers : (e : List ℕ) (outcome : Outcome) (values buffer now : List ℕ) {code : ErrorCode} {position : ℕ} {r : EntryAnswer}
+    → now ≡ buffer → r ≡ answer.Error code position → outcome ≡ refused (numberOf code) position
+    → (entryOutcome r ≡ entryFrom e outcome) × (now ≡ bufferAfter outcome values buffer)
+unfolding entryOutcome entryFrom bufferAfter
+refusal-answers e outcome values buffer now left a is = (rw (a, is), left ∙ rw is)
 
-    module _ (sized : within 1 labelCapacity (at e 3) ≡ true) where
-      pub not-filled : isFilled e ≡ false → entryJudged least e ≡ refused 14 0
-      unfolding entryJudged refusedIf isKnown readerOf lengthOf
-      not-filled h = rw (kind, ← is, le-ltb reader least rising, sized, h)
+-- an entry that is read by itself
+module _ (least position : ℕ) (e : List ℕ) where
+  pub form-refused : Tested least e Malformed → entryRead least position e ≡ refused 14 position
+  unfolding entryRead entryJudged andThen
+  form-refused form = rw (form _)
 
-      pub by-label : isFilled e ≡ true → (label : List ℕ) → label ≡ labelIn e → entryJudged least e ≡ labelJudged (decodeOutcome s labelCapacity label) reader
-      unfolding entryJudged refusedIf isKnown readerOf lengthOf schemeIn schemeNamed
-      by-label h label l = rw (l, kind, ← is, le-ltb reader least rising, sized, h)
+  -- its form is lawful, and its label was decoded
+  module _ {scheme : Scheme} {reader end : ℕ} (form : Tested least e (Lawful scheme reader end)) (text now : List ℕ) (room : textCapacity ≤ length text)
+      (decoded : PointsAnswer) (answers : pointsOutcome decoded ≡ decodeOutcome scheme (length text) (take (end - labelStart) (drop labelStart e)))
+      (left : now ≡ bufferAfter (decodeOutcome scheme (length text) (take (end - labelStart) (drop labelStart e))) (textOf scheme (take (end - labelStart) (drop labelStart e))) text) where
+    outcome-is : pointsOutcome decoded ≡ decodeOutcome (schemeIn e) (length text) (labelIn e)
+    outcome-is = answers ∙ rw (form .1, label-part e end (form .3))
 
--- the filling, by what the code tested
-pub not-filled-judged : (least : ℕ) (e : List ℕ) {s : Scheme} {reader : ℕ} {zeros : Bool} → length e ≡ entryLength → kindNames (kindOf e) ≡ Known s → reader ≡ numberAt e 1 → least ≤ reader
-    → 1 ≤ at e 3 → at e 3 ≤ labelCapacity → zeros ≡ everyIn (λ b. eqb b 0) (take (length e - (labelStart + at e 3)) (drop (labelStart + at e 3) e)) → not zeros ≡ true
-    → refused 14 0 ≡ entryJudged least e
-not-filled-judged least e long kind is rising some short zeros bad =
-    sym (not-filled _ least e kind _ is rising (within-true 1 labelCapacity (at e 3) some short) (filled-part e _ long short zeros ∙ not-true _ bad))
+    read-is : entryRead least position e ≡ andThen (λ _. position) (andThen (λ _. 0) (pointsOutcome decoded) (done reader)) (done (length (textIn e)))
+    unfolding entryRead entryJudged
+    read-is = rw (form .0 _, decode-room (schemeIn e) (labelIn e) (length text) room, ← outcome-is, form .2)
 
--- the label's verdict, as the code gives it
-module _ (answer : PointsAnswer) (outcome : Outcome) (answers : pointsOutcome answer ≡ outcome) (reader : ℕ) where
-  pub label-bad : (code : ErrorCode) (position : ℕ) → answer ≡ points.Error code position → judgedOutcome (Bad code) ≡ labelJudged outcome reader
-  unfolding judgedOutcome labelJudged pointsOutcome
-  label-bad code position a = rw (← answers, a)
+    left-is : now ≡ bufferAfter (pointsOutcome decoded) (textIn e) text
+    unfolding textIn
+    left-is = left ∙ rw (answers, form .1, label-part e end (form .3))
 
-  pub label-good : (count : PointCount) → answer ≡ points.Points count → judgedOutcome (Reader reader) ≡ labelJudged outcome reader
-  unfolding judgedOutcome labelJudged pointsOutcome
-  label-good count a = rw (← answers, a)
+    pub label-refused : {code : ErrorCode} {p : ℕ} {r : EntryAnswer} → decoded ≡ points.Error code p → r ≡ answer.Error code position
+        → (entryOutcome r ≡ entryFrom e (entryRead least position e)) × (now ≡ bufferAfter (entryRead least position e) (textIn e) text)
+    unfolding pointsOutcome andThen bufferAfter
+    label-refused is a = refusal-answers e _ _ _ _ (left-is ∙ rw is) a (read-is ∙ rw is)
 
-label-done : (o : Outcome) (reader n : ℕ) → labelJudged o reader ≡ done n → (n ≡ reader) × ((count : ℕ) × (o ≡ done count))
-unfolding labelJudged
-label-done (done count) reader n e = (cc, (count, refl))
-label-done (refused number position) reader n e = let z : _≡_ {A = ℕ} 0 1 = cc in absurd (omega arith)
-
--- what a good entry holds
-pub record Holds (e : List ℕ) (reader : ℕ) : Type 0 where
-  pub known : isKnown (kindNames (kindOf e)) ≡ true
-  pub short : lengthOf e ≤ labelCapacity
-  pub reads : reader ≡ readerOf e
-  pub count : ℕ
-  pub decodes : decodeOutcome (schemeIn e) labelCapacity (labelIn e) ≡ done count
-
-pub holds : (least reader : ℕ) (e : List ℕ) → entryJudged least e ≡ done reader → Holds e reader
-unfolding entryJudged
-holds least reader e g =
-    let kind = passed _ _ _ _ _ g in
-    let rising = passed _ _ _ _ _ (kind .1) in
-    let sized = passed _ _ _ _ _ (rising .1) in
-    let filled = passed _ _ _ _ _ (sized .1) in
-    let label = label-done _ _ _ (filled .1) in
-    record {
-      known = not-false _ (kind .0);
-      short = within-high _ _ _ (not-false _ (sized .0));
-      reads = label .0;
-      count = label .1 .0;
-      decodes = label .1 .1;
-    }
-
-module _ (e : List ℕ) (good : Good e) where
-  good-holds : Holds e (good .reader)
-  good-holds = holds (good .least) (good .reader) e (good .judged)
-
-  -- its kind names a scheme, its label stands within it, and it decodes into any buffer of 63 points or more
-  pub good-known : kindNames (kindOf e) ≡ Unknown → ⊥
-  unfolding isKnown
-  good-known u = let k = good-holds .known in let k' : isKnown Unknown ≡ true = rw u at k in let z : _≡_ {A = ℕ} 0 1 = cc in omega arith
-
-  pub good-short : at e 3 ≤ labelCapacity
-  unfolding lengthOf
-  good-short = good-holds .short
-
-  pub good-decodes : (capacity : ℕ) → 63 ≤ capacity → decodeOutcome (schemeIn e) capacity (labelIn e) ≡ done (length (textOf (schemeIn e) (labelIn e)))
-  good-decodes capacity room =
-      let s = schemeIn e in
-      decode-settled (codecOf s) (faithful s) capacity (labelIn e) room .succeeds _ .1 (decoded-readable s labelCapacity _ (labelIn e) (good-holds .decodes), refl)
+    pub entry-answers : {count : PointCount} → decoded ≡ points.Points count
+        → (entryOutcome (answer.Entry reader scheme count) ≡ entryFrom e (entryRead least position e)) × (now ≡ bufferAfter (entryRead least position e) (textIn e) text)
+    unfolding pointsOutcome andThen bufferAfter entryOutcome entryFrom textIn
+    entry-answers {count} is =
+        let n : count .0 ≡ length (textIn e) = decoded-count (schemeIn e) (length text) (count .0) (labelIn e) (sym outcome-is ∙ rw is) in
+        (rw (read-is, is, n, form .1, form .2), left-is ∙ rw (read-is, is, n))

@@ -1,199 +1,247 @@
--- Laws on tables: the entries one by one, and each test on the header and the length in its turn.
+-- Laws on tables: the tests on the header and the length in their turn, the entries one by one, and
+-- a table that reads whole.
 use Prim.Native.Nat.{ℕ, zero, suc, _+_, _-_, _*_, _≤_, _<_}
 use mathlib.Core.Path.{_≡_, refl, sym, ap, _∙_}
-use mathlib.Core.Bool.{true, false}
+use mathlib.Core.Bool.{not}
 use mathlib.Core.List.{List}
-use lib.Dec.{ltb}
+use lib.Dec.{ltb, leb}
 use lib.ListN.{length, take, drop, length-drop}
 use lib.Seq.{length-take-le, getD-take, drop-drop}
-use borrow.Author.Tests.{lt-ltb, le-ltb, ltb-false, eq-eqb, ne-eqb, eqb-true, not-false}
+use borrow.Author.Tests.{lt-ltb, ltb-false, eq-eqb, ne-eqb, eqb-true, le-leb, lt-leb, leb-false, not-false}
 use native.Mathlib.Numerals.{add-one}
 use native.Mathlib.Omega.{arith}
 use Rattle.basis.specs.Tests.{within}
 use Rattle.basis.specs.Rows.{at}
-use Rattle.basis.specs.Outcome.{Outcome, done, refused, refusedIf, numberOf}
+use Rattle.basis.specs.Outcome.{Outcome, done, refused, refusedIf, andThen, numberOf, bufferAfter}
 use Rattle.basis.specs.declared.ErrorCode.{ErrorCode}
-use Rattle.basis.proofs.Outcome.{passed}
-use Rattle.nametable.specs.Format.{headerKind, headerLength, mostEntries, entryLength, numberAt, countOf, tableLength, entryAt, readerOf}
-use Rattle.nametable.specs.Answer.{tableOutcome, entryJudged, thenEntries, entriesJudged, readOutcome}
-use Rattle.nametable.specs.Stepping.{judgedOutcome, Good}
-use Rattle.nametable.specs.declared.entries.Judged.{Judged}
-use Rattle.nametable.specs.declared.entries.Judged.the-variants.{Reader, Bad}
+use Rattle.basis.proofs.Tests.{cases, within-true, within-below, within-above, within-low, within-high}
+use Rattle.basis.proofs.Outcome.{stop-if, pass-if, stop-equal, pass-equal, stop-below, pass-below, refusal-kept, both-done, passed}
+use Rattle.utf16.specs.declared.PointCount.{PointCount}
+use Rattle.scheme.specs.Naming as naming
+use Rattle.scheme.specs.declared.Scheme.{Scheme}
+use Rattle.nametable.specs.Format.{headerKind, headerLength, mostEntries, entryLength, labelCapacity, textCapacity, numberAt, countOf, tableLength, entryAt, readerOf, schemeIn}
+use Rattle.nametable.specs.Answer.{tableOutcome, headerTests, lengthTests, formTests, entryJudged, entriesJudged, readOutcome, textIn, entryText, findOutcome, entryRead, judgedEntryOutcome, found, notFound, entryOutcome, entryFrom}
 use Rattle.nametable.specs.declared.TableAnswer.{TableAnswer}
-use Rattle.nametable.specs.declared.TableAnswer.the-variants as answer
-use Rattle.nametable.proofs.EntryLaws.{holds}
+use Rattle.nametable.specs.declared.TableAnswer.the-variants as table
+use Rattle.nametable.specs.declared.EntryAnswer.{EntryAnswer}
+use Rattle.nametable.specs.declared.EntryAnswer.the-variants as answer
 
--- the reader number stands in the entry
+-- the tests on a table, each in its turn
+module _ (t : List ℕ) where
+  pub empty-table : length t ≡ 0 → readOutcome t ≡ refused 13 0
+  unfolding readOutcome headerTests
+  empty-table h = stop-equal 13 0 _ _ _ h
+
+  module _ (some : length t ≡ 0 → ⊥) where
+    pub other-kind : (at t 0 ≡ headerKind → ⊥) → readOutcome t ≡ refused 14 0
+    unfolding readOutcome headerTests
+    other-kind h = pass-equal 13 0 _ _ _ some ∙ stop-if 14 0 _ _ (ap not (ne-eqb _ _ h))
+
+    pub short-header : at t 0 ≡ headerKind → length t < headerLength → readOutcome t ≡ refused 13 0
+    unfolding readOutcome headerTests
+    short-header kind h = pass-equal 13 0 _ _ _ some ∙ pass-if 14 0 _ _ (ap not (eq-eqb _ _ kind)) ∙ stop-below 13 0 _ _ _ h
+
+-- and those on a table with a whole header, which announces n entries
+module _ (t : List ℕ) (kind : at t 0 ≡ headerKind) (header : headerLength ≤ length t) {n : ℕ} (is : n ≡ countOf t) where
+  by-count : readOutcome t ≡ refusedIf (not (within 1 mostEntries n)) 14 0 (lengthTests (length t) (tableLength n) (entriesJudged 0 0 n (drop headerLength t) n))
+  unfolding readOutcome headerTests
+  by-count = rw is (pass-equal 13 0 _ (length t) 0 (λ e. omega arith) ∙ pass-if 14 0 _ _ (ap not (eq-eqb _ _ kind)) ∙ pass-below 13 0 _ _ _ header)
+
+  pub no-entries : n < 1 → readOutcome t ≡ refused 14 0
+  no-entries h = by-count ∙ stop-if 14 0 _ _ (ap not (within-below 1 mostEntries n h))
+
+  pub many-entries : mostEntries < n → readOutcome t ≡ refused 14 0
+  many-entries h = by-count ∙ stop-if 14 0 _ _ (ap not (within-above 1 mostEntries n h))
+
+  module _ (some : 1 ≤ n) (few : n ≤ mostEntries) where
+    by-length : readOutcome t ≡ lengthTests (length t) (tableLength n) (entriesJudged 0 0 n (drop headerLength t) n)
+    by-length = by-count ∙ pass-if 14 0 _ _ (ap not (within-true 1 mostEntries n some few))
+
+    pub cut-table : length t < tableLength n → readOutcome t ≡ refused 13 0
+    unfolding lengthTests refusedIf
+    cut-table h = by-length ∙ rw (lt-ltb (length t) (tableLength n) h)
+
+    pub long-table : tableLength n < length t → readOutcome t ≡ refused 14 0
+    unfolding lengthTests
+    long-table h = by-length ∙ pass-below 13 0 _ (length t) (tableLength n) (omega arith) ∙ stop-below 14 0 _ _ _ h
+
+    pub by-entries : length t ≡ tableLength n → readOutcome t ≡ entriesJudged 0 0 n (drop headerLength t) n
+    unfolding lengthTests
+    by-entries h = by-length ∙ pass-below 13 0 _ (length t) (tableLength n) (omega arith) ∙ pass-below 14 0 _ (tableLength n) (length t) (omega arith)
+
+-- the answer with an error
+pub table-answers : (t : List ℕ) (code : ErrorCode) (r : TableAnswer) → r ≡ table.Error code 0 → readOutcome t ≡ refused (numberOf code) 0
+    → tableOutcome r ≡ readOutcome t
+unfolding tableOutcome
+table-answers t code r a e = rw (a, e)
+
+-- an entry's answer, back to the outcome that it came from
+pub from-refused : (e : List ℕ) (o : Outcome) {number position : ℕ} → entryFrom e o ≡ notFound number position → o ≡ refused number position
+unfolding entryFrom
+from-refused e (done n) q = let z : _≡_ {A = ℕ} 0 1 = cc in absurd (omega arith)
+from-refused e (refused k p) q = cc
+
+pub from-found : (e : List ℕ) (o : Outcome) {reader scheme count : ℕ} → entryFrom e o ≡ found reader scheme count
+    → (o ≡ done count) × (reader ≡ readerOf e) × (scheme ≡ naming.numberOf (schemeIn e))
+unfolding entryFrom
+from-found e (done n) q = (cc, cc, cc)
+from-found e (refused k p) q = let z : _≡_ {A = ℕ} 0 1 = cc in absurd (omega arith)
+
+-- the entry at index i, as the part of the table that is read
+abbrev partAt : List ℕ → ℕ → List ℕ
+partAt t i = take (tableLength i + entryLength - tableLength i) (drop (tableLength i) t)
+
+pub part-is : (t : List ℕ) (i : ℕ) → partAt t i ≡ entryAt t i
+unfolding entryAt
+part-is t i = let n : 3 + 67 * i + 67 - (3 + 67 * i) ≡ 67 = omega arith in rw n
+
+pub part-long : (t : List ℕ) (i : ℕ) → tableLength i + entryLength ≤ length t → length (partAt t i) ≡ entryLength
+unfolding entryAt
+part-long t i h = ap length (part-is t i) ∙ length-take-le 67 (drop (3 + 67 * i) t) (simp length-drop (omega arith))
+
+-- the reader number is among the bytes of the entry
 reader-part : (bytes : List ℕ) → readerOf (take entryLength bytes) ≡ readerOf bytes
 unfolding readerOf numberAt
 reader-part bytes = rw (getD-take 67 bytes 1 0 (omega arith), getD-take 67 bytes 2 0 (omega arith))
 
--- the first of the entries that are left
-module _ (index least left : ℕ) (bytes : List ℕ) (total : ℕ) where
-  entries-bad : (number : ℕ) → entryJudged least (take entryLength bytes) ≡ refused number 0 → entriesJudged index least (suc left) bytes total ≡ refused number index
-  unfolding entriesJudged thenEntries
-  entries-bad number e = rw e
-
-  entries-good : (reader : ℕ) → entryJudged least (take entryLength bytes) ≡ done reader
-      → entriesJudged index least (suc left) bytes total ≡ entriesJudged (suc index) (suc reader) left (drop entryLength bytes) total
-  unfolding entriesJudged thenEntries
-  entries-good reader e =
-      let r : reader ≡ readerOf bytes = holds least reader (take entryLength bytes) e .reads ∙ reader-part bytes in
-      rw (e, r)
-
--- the entry at index i, as the part of the table that is read
-abbrev pub partAt : List ℕ → ℕ → List ℕ
-partAt table i = take (headerLength + entryLength * i + entryLength - (headerLength + entryLength * i)) (drop (headerLength + entryLength * i) table)
-
-pub part-is : (table : List ℕ) (i : ℕ) → partAt table i ≡ entryAt table i
-unfolding entryAt
-part-is table i = let n : 3 + 67 * i + 67 - (3 + 67 * i) ≡ 67 = omega arith in rw n
-
-pub part-long : (table : List ℕ) (count i : ℕ) → length table ≡ tableLength count → i < count → length (partAt table i) ≡ entryLength
-unfolding entryAt
-part-long table count i l h = ap length (part-is table i) ∙ length-take-le 67 (drop (3 + 67 * i) table) (simp length-drop (omega arith))
-
 -- a turn of the loop, at the entry at index i
-module _ (table : List ℕ) (count i least : ℕ) (more : i < count) (judged : Judged) (judges : judgedOutcome judged ≡ entryJudged least (partAt table i)) where
-  pub turn-stops : (code : ErrorCode) (r : TableAnswer) → judged ≡ Bad code → r ≡ answer.Error code i
-      → tableOutcome r ≡ entriesJudged i least (count - i) (drop (headerLength + entryLength * i) table) count
-  unfolding judgedOutcome tableOutcome entryAt
-  turn-stops code r j a =
-      let l : count - i ≡ suc (count - suc i) = omega arith in
-      let e = ap (entryJudged least) (sym (part-is table i)) ∙ sym judges ∙ ap judgedOutcome j in
-      rw (a, l) (sym (entries-bad i least (count - suc i) (drop (3 + 67 * i) table) count (numberOf code) e))
+module _ (t : List ℕ) (count i least : ℕ) where
+  abbrev left : ℕ → Outcome
+  left k = entriesJudged i least k (drop (tableLength i) t) count
 
-  pub turn-goes : (reader : ℕ) → judged ≡ Reader reader
-      → entriesJudged (i + 1) (reader + 1) (count - (i + 1)) (drop (headerLength + entryLength * (i + 1)) table) count
-      ≡ entriesJudged i least (count - i) (drop (headerLength + entryLength * i) table) count
-  unfolding judgedOutcome entryAt
-  turn-goes reader j =
-      let l : count - i ≡ suc (count - suc i) = omega arith in
-      let d : 3 + 67 * suc i ≡ 3 + 67 * i + 67 = omega arith in
-      let e = ap (entryJudged least) (sym (part-is table i)) ∙ sym judges ∙ ap judgedOutcome j in
-      rw (add-one i, add-one reader, l, d, ← drop-drop 67 (3 + 67 * i) table) (sym (entries-good i least (count - suc i) (drop (3 + 67 * i) table) count reader e))
+  module _ (more : i < count) (judged : EntryAnswer) (judges : entryOutcome judged ≡ entryFrom (partAt t i) (entryRead least i (partAt t i))) where
+    left-is : left (count - i) ≡ left (suc (count - suc i))
+    left-is = let l : count - i ≡ suc (count - suc i) = omega arith in rw l
+
+    pub turn-stops : {code : ErrorCode} {position : ℕ} {r : TableAnswer} → judged ≡ answer.Error code position → r ≡ table.Error code position → tableOutcome r ≡ left (count - i)
+    unfolding entryOutcome tableOutcome entriesJudged entryRead entryAt
+    turn-stops is a =
+        let q = from-refused _ _ (sym judges ∙ ap entryOutcome is) in
+        rw (a, left-is) (sym (refusal-kept _ _ _ _ refl (rw part-is at q)))
+
+    pub turn-goes : {reader : ℕ} {scheme : Scheme} {points : PointCount} → judged ≡ answer.Entry reader scheme points
+        → entriesJudged (i + 1) (reader + 1) (count - (i + 1)) (drop (tableLength (i + 1)) t) count ≡ left (count - i)
+    unfolding entryOutcome entriesJudged entryRead entryAt andThen
+    turn-goes {reader} is =
+        let q = from-found _ _ (sym judges ∙ ap entryOutcome is) in
+        let d : 3 + 67 * suc i ≡ 3 + 67 * i + 67 = omega arith in
+        let p = both-done _ _ _ (rw part-is at (q .0)) .0 in
+        let j : entryJudged labelCapacity least (take entryLength (drop (tableLength i) t)) ≡ done (p .0) = p .1 in
+        let r : reader ≡ readerOf (drop (3 + 67 * i) t) = q .1 ∙ ap readerOf (part-is t i) ∙ reader-part (drop (3 + 67 * i) t) in
+        rw (left-is, add-one i, add-one reader, r, d, ← drop-drop 67 (3 + 67 * i) t, j)
 
 -- no entry left
 pub none-left : (index least count total : ℕ) (bytes : List ℕ) → count ≤ index → entriesJudged index least (count - index) bytes total ≡ done total
 unfolding entriesJudged
 none-left index least count total bytes h = let z : count - index ≡ 0 = omega arith in rw z
 
--- all entries good: the answer is the total, and each entry is good
-then-done : (index : ℕ) (o next : Outcome) (n : ℕ) → thenEntries index o next ≡ done n → ((reader : ℕ) × (o ≡ done reader)) × (next ≡ done n)
-unfolding thenEntries
-then-done index (done reader) next n e = ((reader, refl), e)
-then-done index (refused number position) next n e = let z : _≡_ {A = ℕ} 0 1 = cc in absurd (omega arith)
+-- an entry that is judged good is good for a smaller least reader number
+lower-least : (room least : ℕ) (e : List ℕ) {n : ℕ} → entryJudged room least e ≡ done n → entryJudged room 0 e ≡ done n
+unfolding entryJudged formTests
+lower-least room least e g =
+    let kind = passed _ _ _ _ _ g in
+    pass-if 14 0 _ _ (kind .0) ∙ pass-below 14 0 _ (readerOf e) 0 (omega arith) ∙ passed _ _ _ _ _ (kind .1) .1
 
+-- all entries good: the answer is the total, and each entry is good
 entries-total : (index least left : ℕ) (bytes : List ℕ) (total n : ℕ) → entriesJudged index least left bytes total ≡ done n → n ≡ total
 unfolding entriesJudged
 entries-total index least zero bytes total n e = cc
-entries-total index least (suc left) bytes total n e =
-    entries-total (suc index) (suc (readerOf bytes)) left (drop entryLength bytes) total n (then-done _ _ _ _ e .1)
+entries-total index least (suc left) bytes total n e = entries-total (suc index) (suc (readerOf bytes)) left (drop entryLength bytes) total n (both-done _ _ _ e .1)
 
 each-good : (index least left : ℕ) (bytes : List ℕ) (total n : ℕ) → entriesJudged index least left bytes total ≡ done n
-    → (k : ℕ) → k < left → Good (take entryLength (drop (entryLength * k) bytes))
+    → (k : ℕ) → k < left → (m : ℕ) × (entryJudged labelCapacity 0 (take entryLength (drop (entryLength * k) bytes)) ≡ done m)
 unfolding entriesJudged
 each-good index least zero bytes total n e k h = absurd (omega arith)
-each-good index least (suc left) bytes total n e zero h =
-    let f = then-done _ _ _ _ e in
-    record { least = least; reader = f .0 .0; judged = f .0 .1 }
+each-good index least (suc left) bytes total n e zero h = let f = both-done _ _ _ e .0 in (f .0, lower-least labelCapacity least (take entryLength bytes) (f .1))
 each-good index least (suc left) bytes total n e (suc k) h =
     let d : 67 * suc k ≡ 67 + 67 * k = omega arith in
     rw (d, ← drop-drop (67 * k) 67 bytes)
-    (each-good (suc index) (suc (readerOf bytes)) left (drop entryLength bytes) total n (then-done _ _ _ _ e .1) k (omega arith))
+    (each-good (suc index) (suc (readerOf bytes)) left (drop entryLength bytes) total n (both-done _ _ _ e .1) k (omega arith))
 
--- the tests on a table, each in its turn
-module _ (t : List ℕ) where
-  pub empty-table : length t ≡ 0 → readOutcome t ≡ refused 13 0
-  unfolding readOutcome refusedIf
-  empty-table h = rw (eq-eqb (length t) 0 h)
-
-  module _ (some : length t ≡ 0 → ⊥) where
-    pub other-kind : (at t 0 ≡ headerKind → ⊥) → readOutcome t ≡ refused 14 0
-    unfolding readOutcome refusedIf
-    other-kind h = rw (ne-eqb (length t) 0 some, ne-eqb (at t 0) headerKind h)
-
-    module _ (kind : at t 0 ≡ headerKind) where
-      pub short-header : length t < headerLength → readOutcome t ≡ refused 13 0
-      unfolding readOutcome refusedIf
-      short-header h = rw (ne-eqb (length t) 0 some, eq-eqb (at t 0) headerKind kind, lt-ltb (length t) headerLength h)
-
--- and those on a table with a whole header, that announces n entries
-module _ (t : List ℕ) (kind : at t 0 ≡ headerKind) (header : headerLength ≤ length t) (n : ℕ) (is : n ≡ countOf t) where
-  pub other-count : within 1 mostEntries n ≡ false → readOutcome t ≡ refused 14 0
-  unfolding readOutcome refusedIf
-  other-count c =
-      let some : length t ≡ 0 → ⊥ = λ e. omega arith in
-      rw (ne-eqb (length t) 0 some, eq-eqb (at t 0) headerKind kind, le-ltb (length t) headerLength header, ← is, c)
-
-  module _ (count : within 1 mostEntries n ≡ true) where
-    by-length : readOutcome t
-        ≡ refusedIf (ltb (length t) (tableLength n)) 13 0
-        (refusedIf (ltb (tableLength n) (length t)) 14 0
-        (entriesJudged 0 0 n (drop headerLength t) n))
-    unfolding readOutcome refusedIf
-    by-length =
-        let some : length t ≡ 0 → ⊥ = λ e. omega arith in
-        rw (ne-eqb (length t) 0 some, eq-eqb (at t 0) headerKind kind, le-ltb (length t) headerLength header, ← is, count)
-
-    pub cut-table : length t < tableLength n → readOutcome t ≡ refused 13 0
-    unfolding refusedIf
-    cut-table h = by-length ∙ rw (lt-ltb (length t) (tableLength n) h)
-
-    pub long-table : tableLength n < length t → readOutcome t ≡ refused 14 0
-    unfolding refusedIf
-    long-table h = by-length ∙ rw (le-ltb (length t) (tableLength n) (omega arith), lt-ltb (tableLength n) (length t) h)
-
-    pub by-entries : length t ≡ tableLength n → readOutcome t ≡ entriesJudged 0 0 n (drop headerLength t) n
-    unfolding refusedIf
-    by-entries h = by-length ∙ rw (le-ltb (length t) (tableLength n) (omega arith), le-ltb (tableLength n) (length t) (omega arith))
-
--- the answer with an error
-pub table-answers : (t : List ℕ) (code : ErrorCode) (r : TableAnswer) → r ≡ answer.Error code 0 → readOutcome t ≡ refused (numberOf code) 0
-    → tableOutcome r ≡ readOutcome t
-unfolding tableOutcome
-table-answers t code r a e = rw (a, e)
-
--- what a table that is read holds
+-- what a table that reads whole holds
 pub record Table (t : List ℕ) (n : ℕ) : Type 0 where
   pub kind : at t 0 ≡ headerKind
-  pub header : headerLength ≤ length t
-  pub count : within 1 mostEntries (countOf t) ≡ true
+  pub some : 1 ≤ countOf t
+  pub few : countOf t ≤ mostEntries
   pub counted : n ≡ countOf t
   pub long : length t ≡ tableLength n
-  pub good : (k : ℕ) → k < n → Good (entryAt t k)
+  pub good : (k : ℕ) → k < n → (m : ℕ) × (entryJudged labelCapacity 0 (entryAt t k) ≡ done m)
 
 pub read-table : (t : List ℕ) (n : ℕ) → readOutcome t ≡ done n → Table t n
-unfolding readOutcome entryAt
+unfolding readOutcome headerTests lengthTests entryAt
 read-table t n e =
-    let some = passed _ _ _ _ _ e in
-    let kind = passed _ _ _ _ _ (some .1) in
-    let header = passed _ _ _ _ _ (kind .1) in
-    let count = passed _ _ _ _ _ (header .1) in
+    let kind = passed _ _ _ _ _ (passed _ _ _ _ _ e .1) in
+    let count = passed _ _ _ _ _ (passed _ _ _ _ _ (kind .1) .1) in
     let uncut = passed _ _ _ _ _ (count .1) in
     let unlong = passed _ _ _ _ _ (uncut .1) in
     let counted : n ≡ countOf t = entries-total 0 0 (countOf t) (drop headerLength t) (countOf t) n (unlong .1) in
-    let least = ltb-false (length t) (tableLength (countOf t)) (uncut .0) in
-    let most = ltb-false (tableLength (countOf t)) (length t) (unlong .0) in
     record {
       kind = eqb-true _ _ (not-false _ (kind .0));
-      header = ltb-false (length t) headerLength (header .0);
-      count = not-false _ (count .0);
+      some = within-low 1 mostEntries (countOf t) (not-false _ (count .0));
+      few = within-high 1 mostEntries (countOf t) (not-false _ (count .0));
       counted = counted;
-      long = omega arith;
+      long = omega (arith, ltb-false (length t) (tableLength (countOf t)) (uncut .0), ltb-false (tableLength (countOf t)) (length t) (unlong .0));
       good = λ k h. rw (← drop-drop (67 * k) 3 t) (each-good 0 0 (countOf t) (drop headerLength t) (countOf t) n (unlong .1) k (omega arith));
     }
 
--- an entry of a table that is read, as the part of the table that is lent on
-module _ (t : List ℕ) (r : TableAnswer) (reads : tableOutcome r ≡ readOutcome t) (n index : ℕ) (is : r ≡ answer.Entries n) (inside : index < n) where
-  read-done : readOutcome t ≡ done n
-  unfolding tableOutcome
-  read-done = sym reads ∙ ap tableOutcome is
+-- the tests on one entry by index, each in its turn
+module _ (t : List ℕ) (index capacity : ℕ) where
+  pub find-no-room : capacity < textCapacity → findOutcome t index capacity ≡ refused 1 0
+  unfolding findOutcome
+  find-no-room h = stop-below 1 0 _ _ _ h
 
-  pub part-inside : tableLength index + entryLength ≤ length t
-  part-inside = omega (arith, read-table t n read-done .long)
+  pub find-refused : {number position : ℕ} → textCapacity ≤ capacity → readOutcome t ≡ refused number position → findOutcome t index capacity ≡ refused number position
+  unfolding findOutcome andThen
+  find-refused room e = pass-below 1 0 _ _ _ room ∙ rw e
 
-  pub part-good : (length (partAt t index) ≡ entryLength) × Good (partAt t index)
-  part-good =
-      let w = read-table t n read-done in
-      (part-long t n index (w .long) inside, rw part-is (w .good index inside))
+  -- of a table that was judged
+  pub judged-no-room : capacity < textCapacity → judgedEntryOutcome t index capacity ≡ refused 1 0
+  unfolding judgedEntryOutcome
+  judged-no-room h = stop-below 1 0 _ _ _ h
+
+  module _ (room : textCapacity ≤ capacity) where
+    pub judged-no-header : length t < headerLength → judgedEntryOutcome t index capacity ≡ refused 13 0
+    unfolding judgedEntryOutcome
+    judged-no-header h = pass-below 1 0 _ _ _ room ∙ stop-below 13 0 _ _ _ h
+
+    module _ (header : headerLength ≤ length t) {n : ℕ} (is : n ≡ countOf t) where
+      by-index : judgedEntryOutcome t index capacity ≡ refusedIf (leb n index) 14 0 (refusedIf (ltb (length t) (tableLength (suc index))) 13 0 (entryRead 0 index (entryAt t index)))
+      unfolding judgedEntryOutcome
+      by-index = rw is (pass-below 1 0 _ _ _ room ∙ pass-below 13 0 _ _ _ header)
+
+      pub judged-no-entry : n ≤ index → judgedEntryOutcome t index capacity ≡ refused 14 0
+      judged-no-entry h = by-index ∙ stop-if 14 0 _ _ (le-leb _ _ h)
+
+      module _ (inside : index < n) where
+        pub judged-cut : length t < tableLength index + entryLength → judgedEntryOutcome t index capacity ≡ refused 13 0
+        judged-cut h = by-index ∙ pass-if 14 0 _ _ (lt-leb _ _ inside) ∙ stop-below 13 0 _ (length t) (tableLength (suc index)) (omega arith)
+
+        pub judged-read : tableLength index + entryLength ≤ length t → judgedEntryOutcome t index capacity ≡ entryRead 0 index (entryAt t index)
+        judged-read h = by-index ∙ pass-if 14 0 _ _ (lt-leb _ _ inside) ∙ pass-below 13 0 _ (length t) (tableLength (suc index)) (omega arith)
+
+-- one entry of a table that reads whole: `judged_entry` answers as `entry`
+module _ (t : List ℕ) (n : ℕ) (read : readOutcome t ≡ done n) (index : ℕ) where
+  entry-good : index < n → entryRead 0 index (entryAt t index) ≡ done (length (entryText t index))
+  unfolding entryRead andThen
+  entry-good h = rw (read-table t n read .good index h .1)
+
+  pub judged-as-found : (capacity : ℕ) → judgedEntryOutcome t index capacity ≡ findOutcome t index capacity
+  unfolding judgedEntryOutcome findOutcome andThen
+  judged-as-found capacity =
+      let w = read-table t n read in
+      ap (refusedIf (ltb capacity textCapacity) 1 0)
+      (pass-below 13 0 _ (length t) headerLength (omega (arith, w .long))
+      ∙ cases (leb (countOf t) index)
+      (λ e. stop-if 14 0 _ _ e ∙ sym (stop-if 14 0 _ _ e))
+      (λ e.
+      let inside : index < countOf t = leb-false _ _ e in
+      pass-if 14 0 _ _ e ∙ pass-below 13 0 _ (length t) (tableLength (suc index)) (omega (arith, w .long, w .counted)) ∙ entry-good (omega (arith, w .counted))
+      ∙ sym (pass-if 14 0 _ _ e))
+      ∙ rw read)
+
+-- an entry that was read as a part of the table
+pub part-read : (t : List ℕ) (index least position : ℕ) (r : EntryAnswer) (outcome : Outcome) (buffer now : List ℕ)
+    → (entryOutcome r ≡ entryFrom (partAt t index) (entryRead least position (partAt t index))) × (now ≡ bufferAfter (entryRead least position (partAt t index)) (textIn (partAt t index)) buffer)
+    → least ≡ 0 → position ≡ index → outcome ≡ entryRead 0 index (entryAt t index)
+    → (entryOutcome r ≡ entryFrom (entryAt t index) outcome) × (now ≡ bufferAfter outcome (entryText t index) buffer)
+part-read t index least position r outcome buffer now given l p is = rw is (rw (part-is, l, p) at given)

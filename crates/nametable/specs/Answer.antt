@@ -1,16 +1,16 @@
 -- What reading a table and one entry of it answer, for every input, in the order of the refusals.
 use Prim.Native.Nat.{ℕ, zero, suc}
-use mathlib.Core.Bool.{Bool, true, false, not}
+use mathlib.Core.Bool.{not}
 use mathlib.Core.List.{List}
-use lib.Dec.{eqb, ltb}
+use lib.Dec.{eqb, ltb, leb}
 use lib.ListN.{length, take, drop}
 use Rattle.basis.specs.Tests.{within}
 use Rattle.basis.specs.Rows.{at}
-use Rattle.basis.specs.Outcome.{Outcome, done, refused, refusedIf, numberOf}
+use Rattle.basis.specs.Outcome.{Outcome, done, refused, refusedIf, andThen, numberOf}
 use Rattle.scheme.specs.Naming.{kindNames, isKnown}
 use Rattle.scheme.specs.Naming as naming
 use Rattle.scheme.specs.Coding.{decodeOutcome, textOf}
-use Rattle.nametable.specs.Format.{headerKind, headerLength, mostEntries, entryLength, labelCapacity, countOf, tableLength, entryAt, kindOf, readerOf, lengthOf, labelIn, isFilled, schemeIn}
+use Rattle.nametable.specs.Format.{headerKind, headerLength, mostEntries, entryLength, labelCapacity, textCapacity, countOf, tableLength, entryAt, kindOf, readerOf, lengthOf, labelIn, isFilled, schemeIn}
 use Rattle.nametable.specs.declared.TableAnswer.{TableAnswer}
 use Rattle.nametable.specs.declared.TableAnswer.the-variants as table
 use Rattle.nametable.specs.declared.EntryAnswer.{EntryAnswer}
@@ -21,76 +21,94 @@ unfoldable pub tableOutcome : TableAnswer → Outcome
 tableOutcome (table.Entries count) = done count
 tableOutcome (table.Error code position) = refused (numberOf code) position
 
--- the label's own refusal, by its number, or the reader number
-unfoldable pub labelJudged : Outcome → ℕ → Outcome
-labelJudged (done count) reader = done reader
-labelJudged (refused number position) reader = refused number 0
-
--- one entry, whose reader number is at least the least: its reader number, or the number of the first error: the kind, the reader
--- number, the length, the filling (each 14), then the label's own
-unfoldable pub entryJudged : ℕ → List ℕ → Outcome
-entryJudged least e =
-    refusedIf (not (isKnown (kindNames (kindOf e)))) 14 0
-    (refusedIf (ltb (readerOf e) least) 14 0
-    (refusedIf (not (within 1 labelCapacity (lengthOf e))) 14 0
-    (refusedIf (not (isFilled e)) 14 0
-    (labelJudged (decodeOutcome (schemeIn e) 63 (labelIn e)) (readerOf e)))))
-
--- an entry's error is at the entry's index
-unfoldable pub thenEntries : ℕ → Outcome → Outcome → Outcome
-thenEntries index (done reader) next = next
-thenEntries index (refused number position) next = refused number index
-
--- the entries from an index on, so many, with the least reader number; reader numbers rise strictly
-unfoldable pub entriesJudged : ℕ → ℕ → ℕ → List ℕ → ℕ → Outcome
-entriesJudged index least zero bytes total = done total
-entriesJudged index least (suc left) bytes total =
-    thenEntries index (entryJudged least (take entryLength bytes))
-    (entriesJudged (suc index) (suc (readerOf bytes)) left (drop entryLength bytes) total)
-
--- reading a table: empty 13; another first byte 14; under 3 bytes 13; count 0 or over 500 14; shorter than the count asks 13; longer
--- 14; then entry by entry
-unfoldable pub readOutcome : List ℕ → Outcome
-readOutcome t =
+-- a header of this kind: empty 13; another first byte 14; under 3 bytes 13; a count that is not 1
+-- to 500 14; then what follows
+unfoldable pub headerTests : (kind : ℕ) → List ℕ → Outcome → Outcome
+headerTests kind t next =
     refusedIf (eqb (length t) 0) 13 0
-    (refusedIf (not (eqb (at t 0) headerKind)) 14 0
+    (refusedIf (not (eqb (at t 0) kind)) 14 0
     (refusedIf (ltb (length t) headerLength) 13 0
     (refusedIf (not (within 1 mostEntries (countOf t))) 14 0
-    (refusedIf (ltb (length t) (tableLength (countOf t))) 13 0
-    (refusedIf (ltb (tableLength (countOf t)) (length t)) 14 0
-    (entriesJudged 0 0 (countOf t) (drop headerLength t) (countOf t)))))))
+    next)))
 
--- what one entry answers: reader number, scheme number and count of points, or an error's number and position
+-- so many bytes where so many are needed: fewer 13; more 14; then what follows
+unfoldable pub lengthTests : (bytes needed : ℕ) → Outcome → Outcome
+lengthTests bytes needed next = refusedIf (ltb bytes needed) 13 0 (refusedIf (ltb needed bytes) 14 0 next)
+
+-- the form of an entry with room for so many bytes of label, whose reader number is at least the
+-- least: the kind, the reader number, the length, the filling (each 14); then what follows
+unfoldable pub formTests : (room least : ℕ) → List ℕ → Outcome → Outcome
+formTests room least e next =
+    refusedIf (not (isKnown (kindNames (kindOf e)))) 14 0
+    (refusedIf (ltb (readerOf e) least) 14 0
+    (refusedIf (not (within 1 room (lengthOf e))) 14 0
+    (refusedIf (not (isFilled room e)) 14 0
+    next)))
+
+-- the verdict on one entry: its form's, then the label's own, at 0; else its reader number
+unfoldable pub entryJudged : (room least : ℕ) → List ℕ → Outcome
+entryJudged room least e = formTests room least e (andThen (λ _. 0) (decodeOutcome (schemeIn e) textCapacity (labelIn e)) (done (readerOf e)))
+
+-- the entries from an index on, so many, each judged at its index; reader numbers rise strictly
+-- from the least on
+unfoldable pub entriesJudged : (index least left : ℕ) → List ℕ → (total : ℕ) → Outcome
+entriesJudged index least zero bytes total = done total
+entriesJudged index least (suc left) bytes total =
+    andThen (λ _. index) (entryJudged labelCapacity least (take entryLength bytes))
+    (entriesJudged (suc index) (suc (readerOf bytes)) left (drop entryLength bytes) total)
+
+-- reading a table: the header, the length that its count asks, then entry by entry; it answers the
+-- number of entries
+unfoldable pub readOutcome : List ℕ → Outcome
+readOutcome t =
+    headerTests headerKind t
+    (lengthTests (length t) (tableLength (countOf t))
+    (entriesJudged 0 0 (countOf t) (drop headerLength t) (countOf t)))
+
+-- the text of an entry
+unfoldable pub textIn : List ℕ → List ℕ
+textIn e = textOf (schemeIn e) (labelIn e)
+
+-- the text of the entry at an index
+abbrev pub entryText : List ℕ → ℕ → List ℕ
+entryText t index = textIn (entryAt t index)
+
+-- one entry by index: 1 for a capacity under 63; the table's own refusal; 14 for an index not below
+-- the number of entries; else the count of points
+unfoldable pub findOutcome : List ℕ → (index capacity : ℕ) → Outcome
+findOutcome t index capacity =
+    refusedIf (ltb capacity textCapacity) 1 0
+    (andThen (λ p. p) (readOutcome t)
+    (refusedIf (leb (countOf t) index) 14 0
+    (done (length (entryText t index)))))
+
+-- reading one entry by itself: the verdict on it, at the position; else the count of points
+unfoldable pub entryRead : (least position : ℕ) → List ℕ → Outcome
+entryRead least position e = andThen (λ _. position) (entryJudged labelCapacity least e) (done (length (textIn e)))
+
+-- one entry by index of a table that was judged: 1 for a capacity under 63; 13 for a table with no
+-- whole header; 14 for an index not below the number of entries that the header announces; 13 for a
+-- table that ends before the entry does; then the entry by itself
+unfoldable pub judgedEntryOutcome : List ℕ → (index capacity : ℕ) → Outcome
+judgedEntryOutcome t index capacity =
+    refusedIf (ltb capacity textCapacity) 1 0
+    (refusedIf (ltb (length t) headerLength) 13 0
+    (refusedIf (leb (countOf t) index) 14 0
+    (refusedIf (ltb (length t) (tableLength (suc index))) 13 0
+    (entryRead 0 index (entryAt t index)))))
+
+-- what one entry answers: reader number, scheme number and count of points, or an error's number
+-- and position
 pub data EntryOutcome : Type 0 where
   found : ℕ → ℕ → ℕ → EntryOutcome
   notFound : ℕ → ℕ → EntryOutcome
 
+-- the outcome of an answer
 unfoldable pub entryOutcome : EntryAnswer → EntryOutcome
 entryOutcome (entry.Entry reader scheme count) = found reader (naming.numberOf scheme) (count .0)
 entryOutcome (entry.Error code position) = notFound (numberOf code) position
 
--- the text of the entry at an index
-unfoldable pub entryText : List ℕ → ℕ → List ℕ
-entryText t index = textOf (schemeIn (entryAt t index)) (labelIn (entryAt t index))
-
--- after the table's own verdict: an index not below the number of entries is 14 at 0
-unfoldable pub entryIn : List ℕ → ℕ → Outcome → EntryOutcome
-entryIn t index (refused number position) = notFound number position
-entryIn t index (done count) = found-if (ltb index count)
-  where
-    found-if : Bool → EntryOutcome
-    found-if true = found (readerOf (entryAt t index)) (naming.numberOf (schemeIn (entryAt t index))) (length (entryText t index))
-    found-if false = notFound 14 0
-
--- one entry by index: 1 for a capacity under 63, then the table's own error, then 14 at 0
-unfoldable pub findOutcome : List ℕ → ℕ → ℕ → EntryOutcome
-findOutcome t index capacity = room (ltb capacity 63)
-  where
-    room : Bool → EntryOutcome
-    room true = notFound 1 0
-    room false = entryIn t index (readOutcome t)
-
--- the outcome as a count or an error, for the buffer
-unfoldable pub counted : EntryOutcome → Outcome
-counted (found reader scheme count) = done count
-counted (notFound number position) = refused number position
+-- the entry with this count of points, or the refusal
+unfoldable pub entryFrom : List ℕ → Outcome → EntryOutcome
+entryFrom e (done count) = found (readerOf e) (naming.numberOf (schemeIn e)) count
+entryFrom e (refused number position) = notFound number position

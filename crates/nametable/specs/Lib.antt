@@ -1,5 +1,4 @@
--- The book of names (name table): its format, and what reading it and one entry of it answer.
+-- The name table: its format, and what reading it and one entry of it answer.
 pub mod Format
 pub mod Answer
-pub mod Causes
-pub mod Stepping
+pub mod Internal

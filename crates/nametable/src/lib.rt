@@ -1,13 +1,23 @@
-// The book of names: reading a table, and one entry of it by index.
+// The name table (the paper's book of names): reading it, and one entry of it by index.
 mod entries;
+mod layout;
 
 use basis::ErrorCode;
+use layout::COUNT_START;
+use layout::ENTRY_LENGTH;
+use layout::HEADER_KIND;
+use layout::HEADER_LENGTH;
+use layout::MOST_ENTRIES;
 use scheme::Scheme;
 use utf16::PointCount;
 ghost use mathlib.Core.Path.{_≡_};
 ghost use lib.ListN.{length};
 ghost use Rattle.basis.specs.Outcome.{bufferAfter};
-ghost use Rattle.nametable.specs.Answer.{tableOutcome, readOutcome, entryOutcome, findOutcome, counted, entryText};
+ghost use Rattle.nametable.specs.Format.{entryAt};
+ghost use Rattle.nametable.specs.Answer.{tableOutcome, readOutcome, entryOutcome, entryFrom, findOutcome, judgedEntryOutcome, entryText};
+
+// The room that a caller must have for the text of an entry, in points.
+pub const TEXT_CAPACITY: usize = 63;
 
 // What `read` answers: the number of entries, or the error.
 pub enum TableAnswer {
@@ -15,7 +25,7 @@ pub enum TableAnswer {
     Error { code: ErrorCode, position: usize },
 }
 
-// What `entry` answers: reader number, scheme and count of points, or the error.
+// What `entry` and `judged_entry` answer: reader number, scheme and count of points, or the error.
 pub enum EntryAnswer {
     Entry {
         reader: u16,
@@ -36,18 +46,18 @@ pub fn read(table: &[u8]) -> TableAnswer
         return entries::table_error(ErrorCode::Truncated, 0);
     }
     let kind = table[0];
-    if kind != 0x48 {
+    if kind != HEADER_KIND {
         return entries::table_error(ErrorCode::Malformed, 0);
     }
-    if table.len() < 3 {
+    if table.len() < HEADER_LENGTH {
         return entries::table_error(ErrorCode::Truncated, 0);
     }
-    let count = entries::number_at(table, 1);
-    let length = 3 + 67 * count;
+    let count = layout::number_at(table, COUNT_START);
+    let length = HEADER_LENGTH + ENTRY_LENGTH * count;
     if count < 1 {
         return entries::table_error(ErrorCode::Malformed, 0);
     }
-    if 500 < count {
+    if MOST_ENTRIES < count {
         return entries::table_error(ErrorCode::Malformed, 0);
     }
     if table.len() < length {
@@ -59,24 +69,41 @@ pub fn read(table: &[u8]) -> TableAnswer
     entries::judge(table, count)
 }
 
-// Reads the entry at an index of a whole table.
-pub fn entry(table: &[u8], index: usize, text: &mut [u32]) -> EntryAnswer
-    ensures { λ r. ⌜ entryOutcome r ≡ findOutcome (now (table .entry)) index (length (now (text .entry))) ⌝ }
-    ensures { λ _. ⌜ now (text .exit) ≡ bufferAfter (counted (findOutcome (now (table .entry)) index (length (now (text .entry))))) (entryText (now (table .entry)) index) (now (text .entry)) ⌝ }
+// Reads the entry at an index of a table that was judged before. Nothing but the header's count and
+// that entry is looked at.
+pub fn judged_entry(table: &[u8], index: usize, text: &mut [u32]) -> EntryAnswer
+    ensures { λ r. ⌜ entryOutcome r ≡ entryFrom (entryAt (now (table .entry)) index) (judgedEntryOutcome (now (table .entry)) index (length (now (text .entry)))) ⌝ }
+    ensures { λ _. ⌜ now (text .exit) ≡ bufferAfter (judgedEntryOutcome (now (table .entry)) index (length (now (text .entry)))) (entryText (now (table .entry)) index) (now (text .entry)) ⌝ }
 {
-    if text.len() < 63 {
+    if text.len() < TEXT_CAPACITY {
+        return entries::entry_error(ErrorCode::Capacity, 0);
+    }
+    if table.len() < HEADER_LENGTH {
+        return entries::entry_error(ErrorCode::Truncated, 0);
+    }
+    let count = layout::number_at(table, COUNT_START);
+    if count <= index {
+        return entries::entry_error(ErrorCode::Malformed, 0);
+    }
+    let start = HEADER_LENGTH + ENTRY_LENGTH * index;
+    let end = start + ENTRY_LENGTH;
+    if table.len() < end {
+        return entries::entry_error(ErrorCode::Truncated, 0);
+    }
+    entries::read_entry(&table[start..end], 0, index, text)
+}
+
+// Reads the entry at an index of a table, which is judged whole before.
+pub fn entry(table: &[u8], index: usize, text: &mut [u32]) -> EntryAnswer
+    ensures { λ r. ⌜ entryOutcome r ≡ entryFrom (entryAt (now (table .entry)) index) (findOutcome (now (table .entry)) index (length (now (text .entry)))) ⌝ }
+    ensures { λ _. ⌜ now (text .exit) ≡ bufferAfter (findOutcome (now (table .entry)) index (length (now (text .entry)))) (entryText (now (table .entry)) index) (now (text .entry)) ⌝ }
+{
+    if text.len() < TEXT_CAPACITY {
         return entries::entry_error(ErrorCode::Capacity, 0);
     }
     let verdict = read(table);
     match verdict {
         TableAnswer::Error { code, position } => entries::entry_error(code, position),
-        TableAnswer::Entries(count) => {
-            if count <= index {
-                return entries::entry_error(ErrorCode::Malformed, 0);
-            }
-            let start = 3 + 67 * index;
-            let end = start + 67;
-            entries::find(&table[start..end], text)
-        }
+        TableAnswer::Entries(_) => judged_entry(table, index, text),
     }
 }

@@ -1,69 +1,61 @@
--- The line of one entry of a table that reads whole: its room, and what `nametable::entry` answers and leaves for it.
+-- The line of one entry that is found: its room, and what `nametable::judged_entry` answers and
+-- leaves for it.
 use Prim.Native.Nat.{ℕ, _≤_}
 use mathlib.Core.Path.{_≡_, sym, ap, _∙_}
-use mathlib.Core.List.{List, _++_}
-use lib.ListN.{length, take, drop}
+use mathlib.Core.List.{List}
+use lib.ListN.{length, take}
 use native.Mathlib.Omega.{arith}
-use Rattle.basis.specs.Outcome.{bufferAfter}
+use Rattle.basis.specs.Outcome.{done, bufferAfter}
 use Rattle.basis.specs.declared.ErrorCode.{ErrorCode}
-use Rattle.basis.proofs.Outcome.{done-not-refused}
-use Rattle.basis.proofs.Parts.{front-is, front-fits, front-long}
+use Rattle.basis.proofs.Outcome.{values-fit, values-long, values-are, done-not-refused, done-count}
 use Rattle.utf16.specs.declared.PointCount.{PointCount}
 use Rattle.scheme.specs.Naming.{numberOf, letterOf}
-use Rattle.scheme.specs.Coding.{textOf}
 use Rattle.scheme.specs.declared.Scheme.{Scheme}
 use Rattle.scheme.proofs.Naming.{same-number}
-use Rattle.scheme.proofs.Coding.{decoded-short, decoded-low}
-use Rattle.nametable.specs.Format.{entryAt, readerOf, schemeIn, labelIn}
-use Rattle.nametable.specs.Answer.{found, entryOutcome, entryText, findOutcome, counted}
+use Rattle.scheme.proofs.Coding.{decoded-low}
+use Rattle.nametable.specs.Format.{textCapacity, entryAt, readerOf, schemeIn, labelIn}
+use Rattle.nametable.specs.Answer.{textIn, entryText, judgedEntryOutcome, entryOutcome, entryFrom}
 use Rattle.nametable.specs.declared.EntryAnswer.{EntryAnswer}
 use Rattle.nametable.specs.declared.EntryAnswer.the-variants.{Entry, Error}
-use Rattle.nametable.proofs.Whole.{entry-found, entry-decodes}
+use Rattle.nametable.proofs.TableLaws.{from-refused, from-found}
+use Rattle.nametable_facts.proofs.Whole.{judged-entry-read, entry-decodes, entry-short}
 use Rattle.report.specs.Lines.{listLine}
 use Rattle.report.specs.Answer.{lineRoom}
 use Rattle.report.proofs.Widths.{list-few}
-use Rattle.nametable_list.specs.Listing.{entryLine, HasEntry}
+use Rattle.nametable_list.specs.Listing.{entryLine}
+use Rattle.nametable_list.specs.Internal.{Found}
 
--- what is found is found with one reader number, scheme number and count
-found-once : {r s n r′ s′ n′ : ℕ} → found r s n ≡ found r′ s′ n′ → (r ≡ r′) × (s ≡ s′) × (n ≡ n′)
-found-once e = (cc, cc, cc)
-
-module _ (t : List ℕ) (i : ℕ) (has : HasEntry t i) where
+module _ (t : List ℕ) (i : ℕ) (found : Found t i) where
   -- the line has room
   pub line-fits : length (entryLine t i) ≤ lineRoom
-  unfolding entryLine entryText
+  unfolding entryLine textIn
   line-fits =
-      let s = schemeIn (entryAt t i) in
-      let l = labelIn (entryAt t i) in
-      let d = entry-decodes t (has .count) i 63 (has .whole) (has .inside) (omega arith) in
-      omega (arith, list-few (readerOf (entryAt t i)) (letterOf s) (textOf s l) (decoded-low s 63 _ l d), decoded-short s 63 _ l d)
+      let e = entryAt t i in
+      let read = judged-entry-read t i textCapacity (found textCapacity (omega arith)) in
+      let d = entry-decodes 0 i e read in
+      omega (arith, list-few (readerOf e) (letterOf (schemeIn e)) (textIn e) (decoded-low (schemeIn e) textCapacity (d .0) (labelIn e) (d .1)), entry-short 0 i e read)
 
   -- the answer, and the points' buffer that was old and is now
-  module _ (capacity : ℕ) (room : 63 ≤ capacity) (answer : EntryAnswer) (a : entryOutcome answer ≡ findOutcome t i capacity) where
-    answer-is : entryOutcome answer ≡ found (readerOf (entryAt t i)) (numberOf (schemeIn (entryAt t i))) (length (entryText t i))
-    answer-is = a ∙ entry-found t (has .count) i capacity (has .whole) (has .inside) room
-
+  module _ (capacity : ℕ) (room : textCapacity ≤ capacity) (answer : EntryAnswer) (a : entryOutcome answer ≡ entryFrom (entryAt t i) (judgedEntryOutcome t i capacity)) where
     pub never-error : (code : ErrorCode) (position : ℕ) → answer ≡ Error code position → ⊥
-    unfolding entryOutcome counted
-    never-error code position g = done-not-refused (ap counted answer-is) (ap counted (ap entryOutcome g))
+    unfolding entryOutcome
+    never-error code position g = done-not-refused (found capacity room) (from-refused _ _ (sym a ∙ ap entryOutcome g))
 
     module _ (reader : ℕ) (scheme : Scheme) (count : PointCount) (g : answer ≡ Entry reader scheme count) (old now : List ℕ)
-        (b : now ≡ bufferAfter (counted (findOutcome t i capacity)) (entryText t i) old) where
-      parts : (reader ≡ readerOf (entryAt t i)) × (numberOf scheme ≡ numberOf (schemeIn (entryAt t i))) × (count .0 ≡ length (entryText t i))
+        (b : now ≡ bufferAfter (judgedEntryOutcome t i capacity) (entryText t i) old) where
+      parts : (judgedEntryOutcome t i capacity ≡ done (count .0)) × (reader ≡ readerOf (entryAt t i)) × (numberOf scheme ≡ numberOf (schemeIn (entryAt t i)))
       unfolding entryOutcome
-      parts = found-once (ap entryOutcome (sym g) ∙ answer-is)
+      parts = from-found _ _ (sym a ∙ ap entryOutcome g)
 
-      left : now ≡ entryText t i ++ drop (length (entryText t i)) old
-      unfolding counted bufferAfter
-      left = b ∙ rw (sym a ∙ answer-is)
+      counted : count .0 ≡ length (entryText t i)
+      counted = done-count (parts .0) (found capacity room)
 
       pub points-fit : count .0 ≤ length now
-      points-fit = front-fits (count .0) (entryText t i) _ now (parts .2) left
+      points-fit = values-fit _ _ _ _ _ (parts .0) counted b
 
       pub points-long : count .0 ≡ length (take (count .0) now)
-      points-long = front-long (count .0) (entryText t i) _ now (parts .2) left
+      points-long = values-long _ _ _ _ _ (parts .0) counted b
 
       pub line-is : (letter : ℕ) → letter ≡ letterOf scheme → listLine reader letter (take (count .0) now) ≡ entryLine t i
       unfolding entryLine
-      line-is letter l =
-          rw (parts .0, l, same-number _ _ (parts .1), front-is (count .0) (entryText t i) _ now (parts .2) left)
+      line-is letter l = rw (parts .1, l, same-number _ _ (parts .2), values-are _ _ _ _ _ (parts .0) counted b)

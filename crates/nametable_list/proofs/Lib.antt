@@ -1,3 +1,3 @@
 -- Laws on what is printed.
 pub mod EntryLines
-pub mod Listing
+pub mod AllLines

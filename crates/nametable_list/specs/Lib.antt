@@ -1,2 +1,3 @@
--- What the list of a book of names prints.
+-- What the list of a name table prints.
 pub mod Listing
+pub mod Internal

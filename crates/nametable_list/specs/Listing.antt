@@ -1,6 +1,5 @@
--- What is printed for a book of names: a line for each entry, or one line with the refusal.
-use Prim.Native.Nat.{ℕ, zero, suc, _<_}
-use mathlib.Core.Path.{_≡_}
+-- What is printed for a table: a line for each entry, or one line with the refusal.
+use Prim.Native.Nat.{ℕ, zero, suc}
 use mathlib.Core.List.{List, [], _++_}
 use Rattle.basis.specs.Outcome.{Outcome, done, refused}
 use Rattle.scheme.specs.Naming.{letterOf}
@@ -25,13 +24,3 @@ listingAfter (refused number position) table = refusedAtLine number position
 -- what is printed for a table
 unfoldable pub listing : List ℕ → List ℕ
 listing table = listingAfter (readOutcome table) table
-
--- the table reads whole, and has an entry at the index
-pub record HasEntry (table : List ℕ) (index : ℕ) : Type 0 where
-  pub count : ℕ
-  pub whole : readOutcome table ≡ done count
-  pub inside : index < count
-
--- the room that is lent for all lines of the fullest table
-abbrev pub listingRoom : ℕ
-listingRoom = 300000

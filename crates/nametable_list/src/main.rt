@@ -1,5 +1,5 @@
-// Lists a book of names from standard input: a line for each entry, or one line with the refusal.
-mod book;
+// Lists a name table from standard input: a line for each entry, or one line with the refusal.
+mod listing;
 
 use libc::STDIN_FILENO;
 
@@ -11,6 +11,6 @@ fn main() {
     let n = read.count;
     // 600 bytes for the line of each of 500 entries
     let mut out = [0u8; 300000];
-    let written = book::put_believed(ending, &table[..n], &mut out);
+    let written = listing::put_believed(ending, &table[..n], &mut out);
     streams::print(&out[..written]);
 }

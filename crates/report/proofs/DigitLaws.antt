@@ -1,17 +1,17 @@
 -- Digits: how many there are, one more of them, and their stores, the last one first.
 use Prim.Native.Nat.{ℕ, zero, suc, _+_, _-_, _/_, _%_, _^_, _<_, _≤_, max}
-use mathlib.Core.Path.{_≡_, refl, sym, ap, _∙_}
+use mathlib.Core.Path.{_≡_, refl, ap, _∙_}
 use mathlib.Core.List.{List, [], _∷_, _++_, append-assoc}
 use native.Mathlib.Nat.{not-suc-le-zero, div-lt-self, div-mul-le-self, mul-le-mul-left}
 use native.Mathlib.Omega.{arith}
 use lib.ListN.{length, set, length-append}
-use lib.Seq.{sets}
+use lib.Seq.{sets, length-sets}
 use Rattle.basis.proofs.Tests.{by-lt}
 use Rattle.basis.proofs.Stores.{sets-last}
-use Rattle.report.specs.Stored.{Stored}
+use Rattle.basis.specs.Internal.{Stored}
 use Rattle.report.specs.Digits.{digitCharacter, digitsBefore, digitCount, fixedDigits, digitsOf}
 
--- what stands before the rest does not depend on it
+-- what comes before the rest does not depend on it
 before-append : (base count n : ℕ) (rest : List ℕ) → digitsBefore base count n rest ≡ digitsBefore base count n [] ++ rest
 unfolding digitsBefore
 before-append base zero n rest = refl
@@ -96,4 +96,5 @@ module _ (base : ℕ) (out : List ℕ) (at : ℕ) where
   unfolding digitsBefore
   put-end old count number j n h inv =
       let e : j - at ≡ 0 = omega arith in
-      record { index = ap (λ (k : ℕ). at + k) (sym (fixed-length base count number)); stores = rw e at inv }
+      let s : out ≡ sets old at (fixedDigits base count number) = rw e at inv in
+      record { stores = s; count = omega (arith, fixed-length base count number); long = ap length s ∙ length-sets old at (fixedDigits base count number) }

@@ -1,6 +1,5 @@
 -- The laws on what is printed.
 pub mod Examples
-pub mod Writes
 pub mod DigitLaws
 pub mod PointLaws
 pub mod LineLaws

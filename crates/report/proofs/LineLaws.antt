@@ -10,7 +10,7 @@ use Rattle.basis.proofs.Outcome.{stop-below, pass-below, refusal-leaves, done-l
 use Rattle.report.specs.Digits.{fixedDigits, digitsOf}
 use Rattle.report.specs.Lines.{pointsBytes, pointsLine, listLine, refusedWord, atWord, refusedNumber, refusedLine, refusedAtLine}
 use Rattle.report.specs.Answer.{lineOutcome}
-use Rattle.report.specs.Stored.{Stored}
+use Rattle.basis.specs.Internal.{Stored}
 use Rattle.report.proofs.DigitLaws.{fixed-length}
 
 pub points-line-length : (points : List ℕ) → length (pointsLine points) ≡ length (pointsBytes points) + 1
@@ -47,7 +47,7 @@ module _ (line old : List ℕ) where
   pub line-done : length line ≤ length old → (now : List ℕ) (n : ℕ) → Stored old 0 line now n → Answered (done n) now
   unfolding lineOutcome
   line-done h now n s =
-      let e : length line ≡ n = omega (arith, s .index) in
+      let e : length line ≡ n = omega (arith, s .count) in
       done-leaves (lineOutcome line (length old)) line old now n
       (pass-below _ _ _ _ _ h ∙ ap done e)
       (s .stores ∙ sets-front line old h ∙ ap (λ (k : ℕ). line ++ drop k old) e)

@@ -9,8 +9,8 @@ use lib.Seq.{drop-cons}
 use Rattle.basis.specs.Rows.{at}
 use Rattle.report.specs.Digits.{digitsOf}
 use Rattle.report.specs.Lines.{pointMark, pointBytes, spacedPoints, pointsBytes}
-use Rattle.report.specs.Stored.{Stored}
-use Rattle.report.proofs.Writes.{Begun, then, stored-none, stored-byte, begun-more, begun-end}
+use Rattle.basis.specs.Internal.{Stored}
+use Rattle.basis.proofs.Stores.{StoringFrom, stored-append, stored-none, stored-one, storing-piece, storing-end}
 
 pub point-length : (p : ℕ) → length (pointBytes p) ≡ length (digitsOf 16 4 p) + 2
 unfolding pointBytes pointMark
@@ -43,9 +43,9 @@ module _ (points : List ℕ) (i : ℕ) where
     spaced-length = rw (spaced-turn, length-append (32 ∷ pointBytes (at points i))) (omega arith)
 
     -- a space and the point stored
-    pub point-turn : {old values now later : List ℕ} {from k next : ℕ} → Begun old from values now k (spacedPoints (drop i points))
-        → Stored (set now k 32) (k + 1) (pointBytes (at points i)) later next → Begun old from values later next (spacedPoints (drop (i + 1) points))
-    point-turn {now = now} {k = k} b s = begun-more b spaced-turn (then (stored-byte now k 32) s)
+    pub point-turn : {old values now later : List ℕ} {from k next : ℕ} → StoringFrom from old values now k (spacedPoints (drop i points))
+        → Stored (set now k 32) (k + 1) (pointBytes (at points i)) later next → StoringFrom from old values later next (spacedPoints (drop (i + 1) points))
+    point-turn {now = now} {k = k} b s = storing-piece b spaced-turn (stored-append (stored-one now k 32) s)
 
   module _ (past : length points ≤ i) where
     pub spaced-end : spacedPoints (drop i points) ≡ []
@@ -54,6 +54,6 @@ module _ (points : List ℕ) (i : ℕ) where
 
 -- the first point and the others
 pub points-end : (points : List ℕ) (i : ℕ) → (length points ≡ 0 → ⊥) → length points ≤ i → {old mid now : List ℕ} {from k next : ℕ}
-    → Stored old from (pointBytes (at points 0)) mid k → Begun mid k (spacedPoints (drop 1 points)) now next (spacedPoints (drop i points))
+    → Stored old from (pointBytes (at points 0)) mid k → StoringFrom k mid (spacedPoints (drop 1 points)) now next (spacedPoints (drop i points))
     → Stored old from (pointsBytes points) now next
-points-end points i some past s b = rw (points-first points some) (then s (begun-end b (spaced-end points i past)))
+points-end points i some past s b = rw (points-first points some) (stored-append s (storing-end b (spaced-end points i past)))

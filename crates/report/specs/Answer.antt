@@ -1,11 +1,11 @@
--- What the writer of a line answers, and the room that programs lend it.
+-- What the writer of a line answers, and the room that programs pass it.
 use Prim.Native.Nat.{ℕ}
 use mathlib.Core.List.{List}
 use lib.Dec.{ltb}
 use lib.ListN.{length}
 use Rattle.basis.specs.Outcome.{Outcome, done, refusedIf}
 
--- the room that a program lends for a line
+-- the room that a program passes for a line
 abbrev pub lineRoom : ℕ
 lineRoom = 600
 

@@ -1,5 +1,4 @@
--- What the programs print: digits, rows of points, whole lines, what their writers answer, and stores.
+-- What the programs print: digits, rows of points, whole lines, and what their writers answer.
 pub mod Digits
 pub mod Lines
 pub mod Answer
-pub mod Stored

@@ -2,7 +2,7 @@
 ghost use mathlib.Core.Path.{_≡_};
 ghost use Prim.Native.Nat.{_+_, _≤_, _<_};
 ghost use lib.ListN.{length};
-ghost use Rattle.report.specs.Stored.{Stored};
+ghost use Rattle.basis.specs.Internal.{Stored};
 ghost use Rattle.report.specs.Digits.{digitCharacter, digitCount, fixedDigits, digitsOf};
 
 // The character of a digit.

@@ -1,4 +1,4 @@
-// What the programs print, as bytes in a lent buffer.
+// What the programs print, as bytes in a buffer.
 mod digits;
 mod lines;
 mod points;

@@ -4,7 +4,7 @@ use crate::points;
 use crate::store;
 ghost use Prim.Native.Nat.{_+_, _≤_};
 ghost use lib.ListN.{length};
-ghost use Rattle.report.specs.Stored.{Stored};
+ghost use Rattle.basis.specs.Internal.{Stored};
 ghost use Rattle.report.specs.Lines.{pointsLine, listLine, refusedNumber, refusedLine, refusedAtLine};
 
 // Stores the line of a row of points at an index, and answers the index after it.

@@ -4,7 +4,7 @@ use crate::store;
 ghost use mathlib.Core.Path.{_≡_};
 ghost use Prim.Native.Nat.{_+_, _≤_, _<_, _^_, min};
 ghost use lib.ListN.{length};
-ghost use Rattle.report.specs.Stored.{Stored};
+ghost use Rattle.basis.specs.Internal.{Stored};
 ghost use Rattle.report.specs.Lines.{pointBytes, pointsBytes};
 
 // How many bytes a point has.

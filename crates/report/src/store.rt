@@ -1,7 +1,7 @@
 // Storing a row of bytes at an index.
 ghost use Prim.Native.Nat.{_+_, _≤_};
 ghost use lib.ListN.{length};
-ghost use Rattle.report.specs.Stored.{Stored};
+ghost use Rattle.basis.specs.Internal.{Stored};
 
 // Stores the bytes at an index, and answers the index after them.
 pub(crate) fn put_bytes(bytes: &[u8], out: &mut [u8], at: usize) -> usize

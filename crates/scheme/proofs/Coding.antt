@@ -6,12 +6,12 @@ use mathlib.Core.Logic.{_↔_, Iff·rfl}
 use mathlib.Core.List.{List}
 use lib.ListN.{length, getD}
 use native.Mathlib.Omega.{arith}
-use Rattle.basis.specs.Case.{SameButCase}
 use Rattle.basis.specs.Outcome.{done}
 use Rattle.basis.specs.Causes.{whole}
 use Rattle.basis.specs.Codec.{Writable, Readable}
-use Rattle.basis.proofs.Case.{same-but-case}
 use Rattle.basis.proofs.Codec.{Faithful}
+use Rattle.ascii.specs.Case.{SameButCase}
+use Rattle.ascii.proofs.Case.{same-but-case}
 use Rattle.utf16.specs.Points.{isText}
 use Rattle.utf16.proofs.Surrogates.{text-at, point-top}
 use Rattle.labels.proofs.Causes.{some-iff, short-iff, TextAndLabel, writable-iff}
@@ -19,7 +19,7 @@ use Rattle.altdude.proofs.DecodeLaws as altdude
 use Rattle.altdude_facts.proofs.Faithful.{altdude-faithful}
 use Rattle.lace_facts.proofs.Label as lace
 use Rattle.lace_facts.proofs.Faithful.{lace-faithful}
-use Rattle.scheme.specs.Coding.{codecOf, encodeOutcome, decodeOutcome, labelOf, textOf}
+use Rattle.scheme.specs.Coding.{codecOf, decodeOutcome, labelOf, textOf}
 use Rattle.scheme.specs.declared.Scheme.{Scheme}
 use Rattle.scheme.specs.declared.Scheme.the-variants.{Altdude, Lace}
 
@@ -51,10 +51,6 @@ label-case Lace l m = Iff·rfl
 -- the label of a text that may be written has one byte or more
 pub label-some : (s : Scheme) (t : List ℕ) → Writable (codecOf s) t → 1 ≤ length (labelOf s t)
 label-some s t w = readable-long s (labelOf s t) (faithful s .readable t (labelOf s t) w (label-case s _ _ .1 (same-but-case _ (labelOf s t) .1 refl))) .0
-
--- a label that is written has at most 63 bytes
-pub encoded-short : (s : Scheme) (capacity n : ℕ) (t : List ℕ) → encodeOutcome s capacity t ≡ done n → n ≤ 63
-encoded-short s capacity n t e = let q = faithful s .encoding capacity t .succeeds n .0 e in rw (q .1) (writable-text s t (q .0 .1) .short)
 
 -- what is decoded: its text may be written, and has at most 63 points
 module _ (s : Scheme) (capacity n : ℕ) (l : List ℕ) (e : decodeOutcome s capacity l ≡ done n) where

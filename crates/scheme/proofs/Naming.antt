@@ -1,31 +1,28 @@
--- The directory's numbers, kinds and letters are distinct, so each is one scheme's own.
+-- The directory's numbers, kinds and letters are distinct, so each is one scheme's own; and which
+-- values name no scheme.
 use Prim.Native.Nat.{ℕ}
 use mathlib.Core.Path.{_≡_, refl, sym, ap, _∙_}
-use mathlib.Core.Bool.{Bool, true, false}
-use mathlib.Core.Logic.{_⊎_, inl, inr}
+use mathlib.Core.Bool.{Bool, true, not}
+use mathlib.Core.Logic.{_↔_, _⊎_, inl, inr}
 use mathlib.Core.List.{List, [], _∷_}
 use lib.Dec.{eqb}
 use borrow.Author.Tests.{eqb-true, eq-eqb}
 use Rattle.basis.specs.Tests.{both}
-use Rattle.basis.proofs.Tests.{cases, true-not-false, both-left, both-right}
-use Rattle.scheme.specs.Naming.{rowOf, schemes, numberOf, kindOf, letterOf, firstWith}
+use Rattle.basis.proofs.Tests.{cases, true-not-false, fails-iff, both-left, both-right}
+use Rattle.scheme.specs.Naming.{rowOf, schemes, numberOf, kindOf, letterOf, firstWith, defaultNumber, ownNumberNames, numberNames, isKnown}
 use Rattle.scheme.specs.declared.Scheme.{Scheme}
 use Rattle.scheme.specs.declared.Scheme.the-variants.{Altdude, Lace}
 use Rattle.scheme.specs.declared.Named.{Named}
-use Rattle.scheme.specs.declared.Named.the-variants.{Known, Unknown}
-
-unfoldable isUnknown : Named → Bool
-isUnknown Unknown = true
-isUnknown (Known s) = false
+use Rattle.scheme.specs.declared.Named.the-variants.{Known}
 
 -- no two of the schemes have the same value
 unfoldable distinct : (Scheme → ℕ) → List Scheme → Bool
 distinct valueOf [] = true
-distinct valueOf (s ∷ rest) = both (isUnknown (firstWith valueOf (valueOf s) rest)) (distinct valueOf rest)
+distinct valueOf (s ∷ rest) = both (not (isKnown (firstWith valueOf (valueOf s) rest))) (distinct valueOf rest)
 
 -- the computed test
 directory-distinct : both (distinct numberOf schemes) (both (distinct kindOf schemes) (distinct letterOf schemes)) ≡ true
-unfolding both distinct isUnknown schemes firstWith numberOf kindOf letterOf rowOf
+unfolding both distinct isKnown schemes firstWith numberOf kindOf letterOf rowOf
 directory-distinct = refl
 
 -- the scheme is one of the list
@@ -33,20 +30,24 @@ abbrev OneOf : Scheme → List Scheme → Type 0
 OneOf s [] = ⊥
 OneOf s (t ∷ rest) = (s ≡ t) ⊎ OneOf s rest
 
+-- what holds of each scheme by name holds of any
+pub by-scheme : (P : Scheme → Type 0) → P Altdude → P Lace → (s : Scheme) → P s
+by-scheme P altdude lace Altdude = altdude
+by-scheme P altdude lace Lace = lace
+
 every-scheme : (s : Scheme) → OneOf s schemes
 unfolding schemes
-every-scheme Altdude = inl refl
-every-scheme Lace = inr (inl refl)
+every-scheme = by-scheme (λ s. OneOf s schemes) (inl refl) (inr (inl refl))
 
 -- where the values are distinct, the first scheme with a scheme's value is that scheme
 own-value : (valueOf : Scheme → ℕ) (list : List Scheme) → distinct valueOf list ≡ true → (s : Scheme) → OneOf s list → firstWith valueOf (valueOf s) list ≡ Known s
-unfolding distinct firstWith isUnknown
+unfolding distinct firstWith isKnown
 own-value valueOf [] d s i = absurd i
 own-value valueOf (t ∷ rest) d s (inl e) = rw e (rw (eq-eqb (valueOf t) (valueOf t) refl))
 own-value valueOf (t ∷ rest) d s (inr i) =
     let later = own-value valueOf rest (both-right _ _ d) s i in
     cases (eqb (valueOf s) (valueOf t))
-    (λ e. absurd (true-not-false (both-left _ _ d) (ap isUnknown (ap (λ (v : ℕ). firstWith valueOf v rest) (sym (eqb-true _ _ e)) ∙ later))))
+    (λ e. absurd (true-not-false (both-left _ _ d) (ap (λ (n : Named). not (isKnown n)) (ap (λ (v : ℕ). firstWith valueOf v rest) (sym (eqb-true _ _ e)) ∙ later))))
     (λ e. rw e later)
 
 -- so a value is one scheme's alone
@@ -59,3 +60,26 @@ same-value valueOf d s t e =
 
 pub same-number : (s t : Scheme) → numberOf s ≡ numberOf t → s ≡ t
 same-number = same-value numberOf (both-left _ _ directory-distinct)
+
+-- a value that names a scheme is a scheme's, and conversely
+value-of-named : (valueOf : Scheme → ℕ) (value : ℕ) (list : List Scheme) → isKnown (firstWith valueOf value list) ≡ true → (s : Scheme) × (value ≡ valueOf s)
+unfolding firstWith isKnown
+value-of-named valueOf value [] e = absurd (true-not-false e refl)
+value-of-named valueOf value (t ∷ rest) e = cases (eqb value (valueOf t)) (λ q. (t, eqb-true _ _ q)) (λ q. value-of-named valueOf value rest (rw q at e))
+
+value-names : (valueOf : Scheme → ℕ) (value : ℕ) (list : List Scheme) (s : Scheme) → OneOf s list → value ≡ valueOf s → isKnown (firstWith valueOf value list) ≡ true
+unfolding firstWith isKnown
+value-names valueOf value [] s i e = absurd i
+value-names valueOf value (t ∷ rest) s (inl is) e = rw (eq-eqb value (valueOf t) (e ∙ ap valueOf is))
+value-names valueOf value (t ∷ rest) s (inr i) e = cases (eqb value (valueOf t)) (λ q. rw q) (λ q. rw q (value-names valueOf value rest s i e))
+
+-- so a value names none exactly when it differs from every scheme's
+pub names-none-iff : (valueOf : Scheme → ℕ) (value : ℕ) → (not (isKnown (firstWith valueOf value schemes)) ≡ true) ↔ ((s : Scheme) → value ≡ valueOf s → ⊥)
+names-none-iff valueOf value =
+    let none = fails-iff (isKnown (firstWith valueOf value schemes)) (value-of-named valueOf value schemes, λ p. value-names valueOf value schemes (p .0) (every-scheme (p .0)) (p .1)) in
+    (λ e s is. none .0 e (s, is), λ differs. none .1 (λ p. differs (p .0) (p .1)))
+
+-- 0 names a scheme
+pub zero-known : isKnown (numberNames 0) ≡ true
+unfolding isKnown numberNames ownNumberNames defaultNumber firstWith schemes numberOf rowOf
+zero-known = refl

@@ -62,7 +62,7 @@ unfoldable pub isKnown : Named → Bool
 isKnown (Known scheme) = true
 isKnown Unknown = false
 
--- the scheme that is named; where none is, which is always refused before, LACE stands in
+-- the scheme that is named; where none is, which is always refused before, LACE is taken
 unfoldable pub schemeNamed : Named → Scheme
 schemeNamed (Known scheme) = scheme
 schemeNamed Unknown = Lace

@@ -1,4 +1,4 @@
--- Bytes that are moved part by part, within a buffer: the part from an index on, as it is lent and as it comes back.
+-- Bytes that are moved part by part, within a buffer: the part from an index on, as it is passed and as it comes back.
 use Prim.Native.Nat.{ℕ, _+_, _-_, _≤_}
 use mathlib.Core.Path.{_≡_, sym}
 use mathlib.Core.List.{List, _++_}

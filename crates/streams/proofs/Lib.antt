@@ -1,3 +1,3 @@
--- Laws on what calls come to and on what they move.
+-- Laws on the results of calls and on what they move.
 pub mod CallLaws
 pub mod Counting

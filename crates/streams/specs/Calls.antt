@@ -1,4 +1,4 @@
--- What a call of the C library's read or write came to, by the number that it answered.
+-- The result of a call of the C library's read or write, by the number that it answered.
 use Prim.Native.Nat.{zero, suc}
 use mathlib.Core.Bool.{Bool, false}
 use lib.Dec.{eqb}

@@ -1,4 +1,4 @@
-// What calls of the C library's read and write come to.
+// The results of the C library's read and write.
 use crate::Ending;
 use crate::ReadAnswer;
 ghost use mathlib.Core.Path.{_≡_};

@@ -29,7 +29,7 @@ pub struct Filled {
 }
 
 // Reads once into the front of the buffer. A failure is reported on standard error.
-// With an empty buffer the end of input can't be told from bytes that are to come: that fails too.
+// With an empty buffer 0 bytes would be taken for the end of input: that fails too.
 pub fn read(fd: i32, buffer: &mut [u8]) -> ReadAnswer
     ensures { λ r. ⌜ ReadFits (length (now (buffer .entry))) r ⌝ }
 {

@@ -1,4 +1,4 @@
--- The five numbers that tell what an entry answered, and the row that they are stored in.
+-- The five numbers of what a function answered, and the row that they are stored in.
 use Prim.Native.Nat.{ℕ}
 use mathlib.Core.List.{List, [], _∷_, _++_}
 use lib.Dec.{ltb}
@@ -17,6 +17,7 @@ unfoldable pub entryNumbersOf : EntryOutcome → List ℕ
 entryNumbersOf (found reader scheme count) = 0 ∷ 0 ∷ count ∷ reader ∷ scheme ∷ []
 entryNumbersOf (notFound number position) = number ∷ position ∷ 0 ∷ 0 ∷ 0 ∷ []
 
--- the row afterwards: the five numbers and then what it held; a row of fewer than five elements holds what it held
+-- the row afterwards: the five numbers and then what it held; a row of fewer than five elements
+-- holds what it held
 unfoldable pub answerAfter : List ℕ → List ℕ → List ℕ
 answerAfter numbers row = pick (ltb (length row) 5) row (numbers ++ drop 5 row)

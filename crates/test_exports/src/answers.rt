@@ -1,4 +1,5 @@
-// An entry's answer, stored as five numbers: code (0 when done), position, count, reader number and scheme number.
+// A function's answer, stored as five numbers: code (0 when done), position, count, reader number
+// and scheme number.
 use basis::BytesAnswer;
 use basis::ErrorCode;
 use nametable::EntryAnswer;

@@ -1,5 +1,6 @@
-// The converter, both schemes and the book, exported to C for tests alone. In `answer` each stores five numbers, if it has
-// five elements or more: code (0 when done), position, count, and for an entry of a table reader number and scheme number.
+// The converter, both schemes and the name table, exported to C for tests alone. In `answer` each
+// stores five numbers, if it has five elements or more: code (0 when done), position, count, and
+// for an entry of a table reader number and scheme number.
 mod answers;
 
 use utf16::PointCount;
@@ -12,11 +13,12 @@ ghost use Rattle.utf16.specs.Answer.{toUnitsOutcome, toPointsOutcome};
 ghost use Rattle.altdude.specs.Encoding.{labelOf as altdudeLabelOf};
 ghost use Rattle.altdude.specs.Decoding.{textOf as altdudeTextOf};
 ghost use Rattle.altdude.specs.Answer.{encodeOutcome as altdudeEncodeOutcome, decodeOutcome as altdudeDecodeOutcome};
-ghost use Rattle.lace.specs.Octets.{isAllLdh};
+ghost use Rattle.ascii.specs.Ldh.{isAllLdh};
 ghost use Rattle.lace.specs.Encoding.{labelOf as laceLabelOf};
 ghost use Rattle.lace.specs.Decoding.{textOf as laceTextOf};
 ghost use Rattle.lace.specs.Answer.{encodeOutcome as laceEncodeOutcome, decodeOutcome as laceDecodeOutcome};
-ghost use Rattle.nametable.specs.Answer.{readOutcome, findOutcome, counted, entryText};
+ghost use Rattle.nametable.specs.Format.{entryAt};
+ghost use Rattle.nametable.specs.Answer.{readOutcome, findOutcome, judgedEntryOutcome, entryFrom, entryText};
 ghost use Rattle.test_exports.specs.Answer.{numbersOf, entryNumbersOf, answerAfter};
 
 // Exports `utf16::to_units`.
@@ -89,8 +91,22 @@ pub extern "C" fn test_table_read(table: &[u8], answer: &mut [u64])
 // Exports `nametable::entry`.
 #[no_mangle]
 pub extern "C" fn test_table_entry(table: &[u8], index: usize, text: &mut [u32], answer: &mut [u64])
-    ensures { λ _. ⌜ now (text .exit) ≡ bufferAfter (counted (findOutcome (now (table .entry)) index (length (now (text .entry))))) (entryText (now (table .entry)) index) (now (text .entry)) ⌝ }
-    ensures { λ _. ⌜ now (answer .exit) ≡ answerAfter (entryNumbersOf (findOutcome (now (table .entry)) index (length (now (text .entry))))) (now (answer .entry)) ⌝ }
+    ensures { λ _. ⌜ now (text .exit) ≡ bufferAfter (findOutcome (now (table .entry)) index (length (now (text .entry)))) (entryText (now (table .entry)) index) (now (text .entry)) ⌝ }
+    ensures { λ _. ⌜ now (answer .exit) ≡ answerAfter (entryNumbersOf (entryFrom (entryAt (now (table .entry)) index) (findOutcome (now (table .entry)) index (length (now (text .entry)))))) (now (answer .entry)) ⌝ }
 {
     answers::store_entry(nametable::entry(table, index, text), answer);
+}
+
+// Exports `nametable::judged_entry`.
+#[no_mangle]
+pub extern "C" fn test_table_judged_entry(
+    table: &[u8],
+    index: usize,
+    text: &mut [u32],
+    answer: &mut [u64],
+)
+    ensures { λ _. ⌜ now (text .exit) ≡ bufferAfter (judgedEntryOutcome (now (table .entry)) index (length (now (text .entry)))) (entryText (now (table .entry)) index) (now (text .entry)) ⌝ }
+    ensures { λ _. ⌜ now (answer .exit) ≡ answerAfter (entryNumbersOf (entryFrom (entryAt (now (table .entry)) index) (judgedEntryOutcome (now (table .entry)) index (length (now (text .entry)))))) (now (answer .entry)) ⌝ }
+{
+    answers::store_entry(nametable::judged_entry(table, index, text), answer);
 }

@@ -1,5 +1,5 @@
 -- Points to units and back, and units to points and back, give the row that was there.
-use Prim.Native.Nat.{ℕ, suc, _*_, _≤_, _<_}
+use Prim.Native.Nat.{ℕ, suc, _*_, _%_, _≤_, _<_}
 use mathlib.Core.Path.{_≡_, refl, sym, ap, ap₂, _∙_}
 use mathlib.Core.Bool.{true, false, not}
 use mathlib.Core.List.{List, [], _∷_}
@@ -11,7 +11,11 @@ use Rattle.basis.specs.Rows.{AllBelow}
 use Rattle.basis.proofs.Tests.{cases, by-lt, true-not-false, both-left, both-right, both-true, from-first, first-none, first-before}
 use Rattle.utf16.specs.Points.{isPoint, isText}
 use Rattle.utf16.specs.Units.{isHigh, isLow, highOf, lowOf, pairOf, toUnits, pointsAfter, toPoints, isUnpaired, unpairedAt, firstUnpaired}
-use Rattle.utf16.proofs.Surrogates.{units-small, units-big, point-high, point-low, point-plain, some-unitsOf, length-unitsOf, length-pointOf, zero-not-high, zero-not-low, high-not-low, point-top, point-not-high, point-not-low, plain-point, high-of, low-of, pair-of, pair-big, pair-high, pair-low, pair-point, unpaired-high, unpaired-low, unpaired-plain}
+use Rattle.utf16.specs.Bytes.{unitsOfBytes, bytesOfUnits, pointsOf, bytesOf}
+use Rattle.utf16.proofs.Surrogates.{units-small, units-big, point-high, point-low, point-plain, some-unitsOf, zero-not-high, zero-not-low, high-not-low, point-top, point-not-high, point-not-low, plain-point, high-of, low-of, pair-of, pair-big, pair-high, pair-low, pair-point, unpaired-high, unpaired-low, unpaired-plain}
+use Rattle.utf16.proofs.BytePairs.{length-bytesOfUnits, unitsOfBytes-bytesOfUnits, bytesOfUnits-unitsOfBytes, below-unitsOfBytes}
+use Rattle.utf16.proofs.Pieces.{length-pieces}
+use Rattle.utf16.proofs.Stores.{pointsFrom, units-pieces, text-pieces, points-pieces}
 
 -- a text, its first point and the others
 text-head : (p : ℕ) (ps : List ℕ) → isText (p ∷ ps) ≡ true → isPoint p ≡ true
@@ -46,7 +50,8 @@ paired-cons : (before u : ℕ) (us : List ℕ) → isUnpaired before u (getD us 
 unfolding unpairedAt
 paired-cons before u us e a = from-first _ _ e a
 
--- the units of a text, whatever unit stands before: they make its points, are paired, and fit sixteen bits
+-- the units of a text, whatever unit is before them: they make its points, are paired, and fit
+-- sixteen bits
 text-after : (ps : List ℕ) (before : ℕ) → isText ps ≡ true → (pointsAfter before (toUnits ps) ≡ ps) × AllPaired before (toUnits ps) × AllBelow 0x10000 (toUnits ps)
 unfolding toUnits pointsAfter
 text-after [] before e = (refl, (λ i h. absurd (omega arith)), (λ i h. absurd (omega arith)))
@@ -136,22 +141,43 @@ module _ (us : List ℕ) (b : AllBelow 0x10000 us) (e : firstUnpaired us ≡ len
   pub units-text : isText (toPoints us) ≡ true
   units-text = back .1
 
--- there are at least as many units as points and at most twice as many, and at most as many points as units
+-- there are at least as many units as points and at most twice as many
 pub some-toUnits : (ps : List ℕ) → length ps ≤ length (toUnits ps)
 unfolding toUnits
 some-toUnits [] = omega arith
 some-toUnits (p ∷ ps) = omega (arith, some-unitsOf p (toUnits ps), some-toUnits ps)
 
 pub length-toUnits : (ps : List ℕ) → length (toUnits ps) ≤ 2 * length ps
-unfolding toUnits
-length-toUnits [] = omega arith
-length-toUnits (p ∷ ps) = omega (arith, length-unitsOf p (toUnits ps), length-toUnits ps)
+length-toUnits ps = length-pieces (units-pieces ps)
 
-length-pointsAfter : (before : ℕ) (us : List ℕ) → length (pointsAfter before us) ≤ length us
-unfolding pointsAfter
-length-pointsAfter before [] = omega arith
-length-pointsAfter before (u ∷ us) = omega (arith, length-pointOf before u (pointsAfter u us), length-pointsAfter u us)
-
+-- at most as many points as units
 pub length-toPoints : (us : List ℕ) → length (toPoints us) ≤ length us
-unfolding toPoints
-length-toPoints us = length-pointsAfter 0 us
+unfolding toPoints pointsFrom
+length-toPoints us = omega (arith, length-pieces (points-pieces us))
+
+-- and at most four bytes for each point
+pub length-bytesOf : (ps : List ℕ) → length (bytesOf ps) ≤ 4 * length ps
+length-bytesOf ps = length-pieces (text-pieces ps)
+
+-- points, as bytes and back
+unitsOfBytes-bytesOf : (ps : List ℕ) → unitsOfBytes (bytesOf ps) ≡ toUnits ps
+unfolding bytesOf
+unitsOfBytes-bytesOf ps = unitsOfBytes-bytesOfUnits (toUnits ps)
+
+pub length-bytesOf-units : (ps : List ℕ) → length (bytesOf ps) ≡ 2 * length (toUnits ps)
+unfolding bytesOf
+length-bytesOf-units ps = length-bytesOfUnits (toUnits ps)
+
+pub paired-bytesOf : (ps : List ℕ) → isText ps ≡ true → firstUnpaired (unitsOfBytes (bytesOf ps)) ≡ length (unitsOfBytes (bytesOf ps))
+paired-bytesOf ps e = rw (unitsOfBytes-bytesOf ps) (text-paired ps e)
+
+pub pointsOf-bytesOf : (ps : List ℕ) → isText ps ≡ true → pointsOf (bytesOf ps) ≡ ps
+unfolding pointsOf
+pointsOf-bytesOf ps e = ap toPoints (unitsOfBytes-bytesOf ps) ∙ points-back ps e
+
+-- bytes, an even number, as points and back
+pub bytesOf-pointsOf : (bytes : List ℕ) → AllBelow 256 bytes → length bytes % 2 ≡ 0 → firstUnpaired (unitsOfBytes bytes) ≡ length (unitsOfBytes bytes)
+    → bytesOf (pointsOf bytes) ≡ bytes
+unfolding bytesOf pointsOf
+bytesOf-pointsOf bytes below even e =
+    ap bytesOfUnits (units-back (unitsOfBytes bytes) (below-unitsOfBytes bytes below) e) ∙ bytesOfUnits-unitsOfBytes bytes below even

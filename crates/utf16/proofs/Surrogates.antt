@@ -1,16 +1,18 @@
--- Laws on one point or unit: what is a point, a surrogate and a pair, the units of a point, the point that a unit ends, and unpaired surrogates.
+-- Laws on one point or unit: what is a point, a surrogate and a pair, the units of a point, the point
+-- that a unit ends; and the search for unpaired surrogates.
 use Prim.Native.Nat.{ℕ, _+_, _≤_, _<_}
-use mathlib.Core.Path.{_≡_, ap}
+use mathlib.Core.Path.{_≡_, refl, sym, ap, _∙_}
 use mathlib.Core.Bool.{Bool, true, false, not}
 use mathlib.Core.List.{List, _∷_}
 use lib.ListN.{length, getD}
+use borrow.Author.Count.{below-none, below-more}
 use borrow.Author.Tests.{leb-true, lt-ltb, le-ltb, le-leb, lt-leb}
 use native.Mathlib.Numerals.{add-one}
 use native.Mathlib.Omega.{arith}
 use Rattle.basis.specs.Tests.{both}
-use Rattle.basis.proofs.Tests.{cases, by-lt, true-not-false, both-left, both-true, within-true, within-below, within-above, within-low, within-high, at-each}
+use Rattle.basis.proofs.Tests.{cases, by-lt, true-not-false, both-left, both-true, within-true, within-below, within-above, within-low, within-high, at-each, first-at, first-stop}
 use Rattle.utf16.specs.Points.{isPoint, isText}
-use Rattle.utf16.specs.Units.{isHigh, isLow, highOf, lowOf, pairOf, unitsOf, pointOf, isUnpaired, unpairedAt}
+use Rattle.utf16.specs.Units.{isHigh, isLow, highOf, lowOf, pairOf, unitsOf, pointOf, isUnpaired, unpairedAt, firstUnpaired}
 
 -- 0 is no surrogate
 pub zero-not-high : isHigh 0 ≡ false
@@ -156,11 +158,32 @@ pub unpaired-plain : (before u after : ℕ) → isHigh u ≡ false → isLow u �
 unfolding isUnpaired both
 unpaired-plain before u after h l = rw (h, l)
 
--- a search's test of the unit at an index is that of the unit between its neighbours
-pub unpaired-here : (us : List ℕ) (i before after : ℕ) (found : Bool) → before ≡ getD (0 ∷ us) i 0 → after ≡ getD us (i + 1) 0
-    → found ≡ isUnpaired before (getD us i 0) after → unpairedAt 0 us i ≡ found
-unfolding unpairedAt
-unpaired-here us i before after found b a f = rw (f, b, a, add-one)
+-- no unit before index i is an unpaired surrogate, and before is the last of them
+pub record Searching (us : List ℕ) (before i : ℕ) : Type 0 where
+  pub inside : i ≤ length us
+  pub last : before ≡ getD (0 ∷ us) i 0
+  pub passed : (k : ℕ) → k < i → unpairedAt 0 us k ≡ false
+
+pub searching-none : (us : List ℕ) → Searching us 0 0
+searching-none us = record { inside = omega arith; last = refl; passed = below-none _ }
+
+module _ (us : List ℕ) (before i : ℕ) (s : Searching us before i) where
+  pub searching-all : length us ≤ i → i ≡ firstUnpaired us
+  unfolding firstUnpaired
+  searching-all h = sym (first-stop (length us) (unpairedAt 0 us) i h (s .inside) (s .passed))
+
+  -- the test of the unit at index i between its neighbours
+  module _ (inside : i < length us) (unit after : ℕ) (found : Bool) (u : unit ≡ getD us i 0) (a : after ≡ getD us (i + 1) 0) (f : found ≡ isUnpaired before unit after) where
+    here : unpairedAt 0 us i ≡ found
+    unfolding unpairedAt
+    here = rw (f, s .last, u, a, add-one)
+
+    pub searching-found : found ≡ true → i ≡ firstUnpaired us
+    unfolding firstUnpaired
+    searching-found e = sym (first-at (length us) (unpairedAt 0 us) i inside (here ∙ e) (s .passed))
+
+    pub searching-more : found ≡ false → Searching us unit (i + 1)
+    searching-more e = record { inside = omega arith; last = rw (u, add-one); passed = below-more _ _ (s .passed) (here ∙ e) }
 
 -- each number of a text is a point
 pub text-at : (ps : List ℕ) (i : ℕ) → isText ps ≡ true → i < length ps → isPoint (getD ps i 0) ≡ true

@@ -1,6 +1,7 @@
--- Points, surrogates, UTF-16 units, and what the converter answers.
+-- Points, surrogates, UTF-16 units, bytes, and what the conversions answer.
 pub mod Points
 pub mod Surrogates
 pub mod Units
+pub mod Bytes
 pub mod Answer
 pub mod Causes

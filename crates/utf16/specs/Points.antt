@@ -1,8 +1,8 @@
--- Points (Unicode scalar values), texts, and LDH.
+-- Points (Unicode scalar values) and texts.
 use Prim.Native.Nat.{ℕ}
-use mathlib.Core.Bool.{Bool, not, _||_}
+use mathlib.Core.Bool.{Bool, not}
 use mathlib.Core.List.{List}
-use lib.Dec.{eqb, leb}
+use lib.Dec.{leb}
 use Rattle.basis.specs.Tests.{both, within, everyIn, firstIn}
 
 -- a number 0 to 10FFFF hex other than D800 to DFFF
@@ -16,7 +16,3 @@ isText ps = everyIn isPoint ps
 -- the index of the first number that is no point, or the length
 unfoldable pub firstNotPoint : List ℕ → ℕ
 firstNotPoint ps = firstIn (λ p. not (isPoint p)) ps
-
--- the hyphen, a digit, A to Z or a to z
-unfoldable pub isLdh : ℕ → Bool
-isLdh x = eqb x 45 || within 48 57 x || within 65 90 x || within 97 122 x

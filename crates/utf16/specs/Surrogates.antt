@@ -17,7 +17,7 @@ isLow u = within 0xdc00 0xdfff u
 unfoldable pub isUnpaired : ℕ → ℕ → ℕ → Bool
 isUnpaired before u after = both (isHigh u) (not (isLow after)) || both (isLow u) (not (isHigh before))
 
--- the same of the unit at index i of a row that follows the unit before; past the row's end stands 0, no surrogate
+-- the same of the unit at index i of a row that follows the unit before; past the row's end there is 0, no surrogate
 unfoldable pub unpairedAt : ℕ → List ℕ → ℕ → Bool
 unpairedAt before us i = isUnpaired (getD (before ∷ us) i 0) (getD us i 0) (getD us (suc i) 0)
 

@@ -1,4 +1,5 @@
-// The converter between points and UTF-16 units, with a count of each in a type of its own.
+// The conversions between points, UTF-16 units and bytes, with a type for each count.
+pub mod bytes;
 pub mod points;
 pub mod units;
 
@@ -15,13 +16,13 @@ pub struct PointCount(pub usize);
 // How many units: what the radio counts.
 pub struct UnitCount(pub usize);
 
-// What `to_units` answers.
+// The answer of a function that writes units: how many, or the error.
 pub enum UnitsAnswer {
     Units(UnitCount),
     Error { code: ErrorCode, position: usize },
 }
 
-// What `to_points` answers.
+// The answer of a function that writes points: how many, or the error.
 pub enum PointsAnswer {
     Points(PointCount),
     Error { code: ErrorCode, position: usize },

@@ -1,6 +1,6 @@
 // What is a point, and where a row of numbers has none.
 ghost use mathlib.Core.Path.{_≡_};
-ghost use Rattle.utf16.specs.Points.{isPoint, firstNotPoint, isLdh};
+ghost use Rattle.utf16.specs.Points.{isPoint, firstNotPoint};
 
 // Whether the number is a point.
 pub fn is_point(number: u32) -> bool
@@ -27,26 +27,4 @@ pub fn first_not_point(numbers: &[u32]) -> usize
         i += 1;
     }
     i
-}
-
-// Whether the number is a hyphen, a digit, A to Z or a to z.
-pub fn is_ldh(number: u32) -> bool
-    ensures { λ r. ⌜ r ≡ isLdh number ⌝ }
-{
-    if number < 48 {
-        return number == 45;
-    }
-    if number < 58 {
-        return true;
-    }
-    if number < 65 {
-        return false;
-    }
-    if number < 91 {
-        return true;
-    }
-    if number < 97 {
-        return false;
-    }
-    number < 123
 }

@@ -6,7 +6,7 @@ ghost use mathlib.Core.Bool.{true};
 ghost use lib.ListN.{length, drop, getD};
 ghost use lib.Seq.{sets};
 ghost use Rattle.utf16.specs.Points.{isPoint, isText};
-ghost use Rattle.utf16.specs.Units.{isHigh, isLow, isUnpaired, firstUnpaired, unitsOf, toUnits, pointOf, toPoints};
+ghost use Rattle.utf16.specs.Units.{isHigh, isLow, isUnpaired, firstUnpaired, highOf, lowOf, unitsOf, toUnits, pointOf, toPoints};
 
 // Whether the unit is a high surrogate.
 fn is_high(unit: u16) -> bool
@@ -29,7 +29,7 @@ fn is_low(unit: u16) -> bool
 }
 
 // Whether the unit is an unpaired surrogate between its neighbours.
-fn is_unpaired(before: u16, unit: u16, after: u16) -> bool
+pub(crate) fn is_unpaired(before: u16, unit: u16, after: u16) -> bool
     ensures { λ r. ⌜ r ≡ isUnpaired before unit after ⌝ }
 {
     if is_high(unit) {
@@ -65,6 +65,22 @@ pub fn first_unpaired(units: &[u16]) -> usize
     i
 }
 
+// The high surrogate of a point of 10000 hex or more.
+pub(crate) fn high_of(point: u32) -> u16
+    requires { ⌜ (0x10000 ≤ point) × (point ≤ 0x10ffff) ⌝ }
+    ensures { λ r. ⌜ r ≡ highOf point ⌝ }
+{
+    (0xd800 + (point - 0x10000) / 1024) as u16
+}
+
+// The low surrogate of a point of 10000 hex or more.
+pub(crate) fn low_of(point: u32) -> u16
+    requires { ⌜ 0x10000 ≤ point ⌝ }
+    ensures { λ r. ⌜ r ≡ lowOf point ⌝ }
+{
+    (0xdc00 + (point - 0x10000) % 1024) as u16
+}
+
 // Stores the units of a point at an index, and answers the index after them.
 fn put_point_units(point: u32, units: &mut [u16], at: usize) -> usize
     requires { ⌜ at + 2 ≤ length (now units) ⌝ }
@@ -76,9 +92,8 @@ fn put_point_units(point: u32, units: &mut [u16], at: usize) -> usize
         units[at] = point as u16;
         return at + 1;
     }
-    let over = point - 0x10000;
-    units[at] = (0xd800 + over / 1024) as u16;
-    units[at + 1] = (0xdc00 + over % 1024) as u16;
+    units[at] = high_of(point);
+    units[at + 1] = low_of(point);
     at + 2
 }
 
@@ -99,7 +114,7 @@ pub(crate) fn put_units(points: &[u32], units: &mut [u16]) -> usize
 }
 
 // Stores the point that a unit ends, if it ends one, at an index, and answers the index after it.
-fn put_unit_point(before: u16, unit: u16, points: &mut [u32], at: usize) -> usize
+pub(crate) fn put_unit_point(before: u16, unit: u16, points: &mut [u32], at: usize) -> usize
     requires { ⌜ at + 1 ≤ length (now points) ⌝ }
     ensures { λ r. ⌜ r ≡ at + length (pointOf before unit []) ⌝ }
     ensures { λ r. ⌜ now (points .exit) ≡ sets (now (points .entry)) at (pointOf before unit []) ⌝ }

@@ -118,7 +118,7 @@ pub fn table_read(source: &mut Source) -> Call<u8> {
     call(source, table, 0, 0)
 }
 
-/// Reading one entry of a table.
+/// Reading one entry of a table, judged before or not.
 pub fn table_entry(source: &mut Source) -> Call<u8> {
     let table = tables::table(source);
     let index = index_for(source, table.len());

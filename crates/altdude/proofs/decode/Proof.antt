@@ -6,7 +6,7 @@ use lib.ListN.{length}
 use borrow.Author.Needs.{needs}
 use borrow.Author.Tests.{not-false}
 use Rattle.basis.specs.Outcome.{done}
-use Rattle.basis.proofs.Outcome.{stop-told, pass-told, stop-found, pass-found, refusal-leaves, done-leaves}
+use Rattle.basis.proofs.Outcome.{stop-given, pass-given, stop-found, pass-found, refusal-leaves, done-leaves}
 use Rattle.utf16.specs.Answer.{pointsOutcome}
 use Rattle.labels.proofs.FirstTests.{check-stops, check-passes, label-checked}
 use Rattle.altdude.specs.Answer.{decodeOutcome}
@@ -18,12 +18,6 @@ unfolding pointsOutcome decodeOutcome
 returns c =
     let k = c .before .before in
     refusal-leaves (decodeOutcome _ (k .before .before .before .before .before .args .label .now)) _ _ _ _ _ (ap pointsOutcome (c .points-error .ensures)) (check-stops _ _ (k .before .before .check-label .ensures) _ _ _ (k .check .given .1))
-
-label-has-edge-hyphen-requires : tie.Need-label-has-edge-hyphen-requires
-label-has-edge-hyphen-requires c κs =
-    let p = c .before in
-    let checked = label-checked _ (p .enum-told .given .1) _ _ (p .before .before .check-label .ensures) in
-    omega (arith, checked .some)
 
 returns-2 : tie.Need-returns-2
 unfolding pointsOutcome decodeOutcome
@@ -44,7 +38,7 @@ returns-3 c =
     let l = p .before .before .before .before .before .args .label .now in
     refusal-leaves (decodeOutcome _ l) _ _ _ 5 0 (ap pointsOutcome (c .points-error3 .ensures))
     (check-passes _ _ (p .before .before .check-label .ensures) _ (p .enum-told .given .1) ∙ pass-found 7 (length l) _ _ _ (o .first-outside .ensures) (omega arith)
-    ∙ stop-told 5 0 _ _ _ (h .label-has-edge-hyphen .ensures) (c .before .if2 .taken))
+    ∙ stop-given 5 0 _ _ _ (h .label-has-edge-hyphen .ensures) (c .before .if2 .taken))
 
 returns-4 : tie.Need-returns-4
 unfolding pointsOutcome decodeOutcome
@@ -57,7 +51,7 @@ returns-4 c =
     let l = p .before .before .before .before .before .args .label .now in
     refusal-leaves (decodeOutcome _ l) _ _ _ 9 0 (ap pointsOutcome (c .points-error4 .ensures))
     (check-passes _ _ (p .before .before .check-label .ensures) _ (p .enum-told .given .1) ∙ pass-found 7 (length l) _ _ _ (o .first-outside .ensures) (omega arith)
-    ∙ pass-told 5 0 _ _ _ (h .label-has-edge-hyphen .ensures) (e .if2 .left) ∙ stop-told 9 0 _ _ _ (ap not (r .is-readable .ensures)) (c .before .if3 .taken))
+    ∙ pass-given 5 0 _ _ _ (h .label-has-edge-hyphen .ensures) (e .if2 .left) ∙ stop-given 9 0 _ _ _ (ap not (r .is-readable .ensures)) (c .before .if3 .taken))
 
 put-text-requires : tie.Need-put-text-requires
 put-text-requires c κs =
@@ -78,28 +72,14 @@ returns-5 c =
     let l = p .before .before .before .before .before .args .label .now in
     done-leaves (decodeOutcome _ l) _ _ _ (t .put-text .result)
     (check-passes _ _ (p .before .before .check-label .ensures) _ (p .enum-told .given .1) ∙ pass-found 7 (length l) _ _ _ (o .first-outside .ensures) (omega arith)
-    ∙ pass-told 5 0 _ _ _ (h .label-has-edge-hyphen .ensures) (e .if2 .left) ∙ pass-told 9 0 _ _ _ (ap not (r .is-readable .ensures)) (t .before .before .if3 .left)
+    ∙ pass-given 5 0 _ _ _ (h .label-has-edge-hyphen .ensures) (e .if2 .left) ∙ pass-given 9 0 _ _ _ (ap not (r .is-readable .ensures)) (t .before .before .if3 .left)
     ∙ ap done (sym (t .put-text .ensures .0)))
     (rw (← t .put-text .ensures .0) at (t .put-text .ensures .1))
 
 pub decode-spec : {M : Type 1} → statement M
 decode-spec =
     tie.close
-    (tie.spec
-    (λ c κs. search needs)
-    (λ c. search needs)
-    (λ c κs. search needs)
-    returns
-    (λ c. search needs)
-    (λ c κs. search needs)
-    label-has-edge-hyphen-requires
-    (λ c κs. search needs)
-    (λ c κs. search needs)
-    returns-2
-    (λ c κs. search needs)
-    returns-3
-    (λ c κs. search needs)
-    returns-4
-    put-text-requires
-    (λ c. search needs)
-    returns-5)
+    (tie.spec (λ c κs. search needs) (λ c. search needs) (λ c κs. search needs) returns
+    (λ c. search needs) (λ c κs. search needs) (λ c κs. search needs) (λ c κs. search needs)
+    (λ c κs. search needs) returns-2 (λ c κs. search needs) returns-3 (λ c κs. search needs)
+    returns-4 put-text-requires (λ c. search needs) returns-5)

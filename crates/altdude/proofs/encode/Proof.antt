@@ -9,7 +9,8 @@ use Rattle.basis.specs.Outcome.{Outcome, done, refused, bytesOutcome, numberOf,
 use Rattle.basis.specs.declared.ErrorCode.{ErrorCode}
 use Rattle.basis.specs.declared.BytesAnswer.{BytesAnswer}
 use Rattle.basis.specs.declared.BytesAnswer.the-variants as bytes
-use Rattle.basis.proofs.Outcome.{stop-told, pass-told, stop-below, pass-below, refusal-leaves, done-leaves}
+use Rattle.basis.proofs.Outcome.{stop-given, pass-given, stop-below, pass-below, refusal-leaves, done-leaves}
+use Rattle.ascii.proofs.text_has_edge_hyphen.Reads as text-has-edge-hyphen-reads
 use Rattle.labels.specs.declared.Check.the-variants.{Error}
 use Rattle.labels.proofs.FirstTests.{check-stops, check-passes, text-checked}
 use Rattle.altdude.specs.Answer.{encodeOutcome}
@@ -20,7 +21,6 @@ use Rattle.altdude.proofs.encode.Reads as reads
 use Rattle.altdude.proofs.encode.Lts as lts
 use Rattle.basis.proofs.bytes_error.Reads as bytes-error-reads
 use Rattle.labels.proofs.check_text.Reads as check-text-reads
-use Rattle.altdude.proofs.symbols.text_has_edge_hyphen.Reads as text-has-edge-hyphen-reads
 use Rattle.altdude.proofs.encoding.label_length.Reads as label-length-reads
 use Rattle.altdude.proofs.encoding.put_label.Reads as put-label-reads
 
@@ -50,7 +50,7 @@ returns-2 c =
     let p = c .before .before .before in
     let h = p .before .before in
     refusal-leaves (encodeOutcome _ _) _ _ _ 5 0 (ap bytesOutcome (c .bytes-error2 .ensures))
-    (check-passes _ _ (h .before .check-text .ensures) _ (p .enum-told .given .1) ∙ stop-told 5 0 _ _ _ (h .text-has-edge-hyphen .ensures) (c .before .if1 .taken))
+    (check-passes _ _ (h .before .check-text .ensures) _ (p .enum-told .given .1) ∙ stop-given 5 0 _ _ _ (h .text-has-edge-hyphen .ensures) (c .before .if1 .taken))
 
 returns-3 : tie.Need-returns-3
 unfolding bytesOutcome encodeOutcome
@@ -60,7 +60,7 @@ returns-3 c =
     let p = n .before in
     let h = p .before .before in
     refusal-leaves (encodeOutcome _ _) _ _ _ 3 0 (ap bytesOutcome (c .bytes-error3 .ensures))
-    (check-passes _ _ (h .before .check-text .ensures) _ (p .enum-told .given .1) ∙ pass-told 5 0 _ _ _ (h .text-has-edge-hyphen .ensures) (e .if1 .left)
+    (check-passes _ _ (h .before .check-text .ensures) _ (p .enum-told .given .1) ∙ pass-given 5 0 _ _ _ (h .text-has-edge-hyphen .ensures) (e .if1 .left)
     ∙ stop-below 3 0 _ 63 _ (label-long _ _ (n .label-length .ensures) (omega arith)))
 
 returns-4 : tie.Need-returns-4
@@ -72,29 +72,19 @@ returns-4 c =
     let p = n .before in
     let h = p .before .before in
     done-leaves (encodeOutcome _ _) _ _ _ (l .put-label .result)
-    (check-passes _ _ (h .before .check-text .ensures) _ (p .enum-told .given .1) ∙ pass-told 5 0 _ _ _ (h .text-has-edge-hyphen .ensures) (e .if1 .left)
+    (check-passes _ _ (h .before .check-text .ensures) _ (p .enum-told .given .1) ∙ pass-given 5 0 _ _ _ (h .text-has-edge-hyphen .ensures) (e .if1 .left)
     ∙ pass-below 3 0 _ 63 _ (label-short _ _ (n .label-length .ensures) (omega arith)) ∙ ap done (sym (l .put-label .ensures .0)))
     (rw (← l .put-label .ensures .0) at (l .put-label .ensures .1))
 
 pub encode-spec : {M : Type 1} → statement M
 encode-spec =
     tie.close
-    (tie.spec
-    (λ c κs. search needs)
-    (λ c κs. search needs)
-    (λ c. search needs)
-    (λ c κs. search needs)
-    returns
-    (λ c. search needs)
-    (λ c κs. search needs)
-    (λ c κs. search needs)
-    returns-2
-    (λ c κs. search needs)
-    returns-3
+    (tie.spec (λ c κs. search needs) (λ c κs. search needs) (λ c. search needs)
+    (λ c κs. search needs) returns (λ c. search needs) (λ c κs. search needs) (λ c κs. search needs)
+    returns-2 (λ c κs. search needs) returns-3
     (λ c κs.
     let n = c .before .before .before in
     let p = n .before in
     let checked = text-checked _ (p .enum-told .given .1) _ _ (p .before .before .before .check-text .ensures) in
     omega (arith, checked .room, label-short _ _ (n .label-length .ensures) (omega arith)))
-    (λ c. search needs)
-    returns-4)
+    (λ c. search needs) returns-4)

@@ -1,4 +1,4 @@
--- `run` meets its contract: what is held lies within the line, what is printed stands in front of the output, and each turn
+-- `run` meets its contract: what is held lies within the line, what is printed is in front of the output, and each turn
 -- leaves fewer.
 use Prim.Native.Nat.{_≤_}
 use mathlib.Core.Path.{_≡_, sym}
@@ -22,9 +22,6 @@ answer-read-requires c κs =
     let l = r .before .before .before in
     (rw (sym (r .read .kept .1 .0)) at (r .read .ensures), (l .loop .inv .0, search needs))
 
-slice-aggregate-print-last : tie.Need-slice-aggregate-print-last Inv-loop μ-loop
-slice-aggregate-print-last c = sym (length-take-le _ _ (omega arith))
-
 slice-reshare-prefix-print : tie.Need-slice-reshare-prefix-print Inv-loop μ-loop
 slice-reshare-prefix-print c =
     let a = c .before .before .before .before .before .before .before in
@@ -45,32 +42,10 @@ loop-again c =
 pub run-spec : {M : Type 1} → statement M
 run-spec =
     tie.close
-    (tie.spec
-    Inv-loop
-    μ-loop
-    (λ c. search needs)
-    (λ c κs. search needs)
-    answer-read-requires
-    (λ c. search needs)
-    (λ c. search needs)
-    slice-aggregate-print-last
-    (λ c κs. search needs)
-    (λ c. search needs)
-    (λ c. search needs)
-    (λ c. search needs)
-    (λ c. search needs)
-    (λ c. search needs)
-    slice-reshare-prefix-print
-    slice-aggregate-print
-    (λ c κs. search needs)
-    (λ c. search needs)
-    (λ c. search needs)
-    (λ c. search needs)
-    (λ c. search needs)
-    (λ c. search needs)
-    (λ c. search needs)
-    loop-again
-    (λ c. search needs)
-    (λ c. search needs)
-    (λ c. search needs)
-    (λ c. search needs))
+    (tie.spec Inv-loop μ-loop (λ c. search needs) (λ c κs. search needs) answer-read-requires
+    (λ c. search needs) (λ c. search needs) (λ c. sym (length-take-le _ _ (omega arith)))
+    (λ c κs. search needs) (λ c. search needs) (λ c. search needs) (λ c. search needs)
+    (λ c. search needs) (λ c. search needs) slice-reshare-prefix-print slice-aggregate-print
+    (λ c κs. search needs) (λ c. search needs) (λ c. search needs) (λ c. search needs)
+    (λ c. search needs) (λ c. search needs) (λ c. search needs) loop-again (λ c. search needs)
+    (λ c. search needs) (λ c. search needs) (λ c. search needs))

@@ -1,4 +1,4 @@
--- `answer_number` meets its contract: a count of at most 252, or an error's number, which is at most 14.
+-- `answer_number` meets its contract: a count of at most 252, or an error's number, at most 14.
 use native.Mathlib.Omega.{arith}
 use borrow.Author.Needs.{needs}
 use Rattle.basis.specs.Outcome.{countOf, bytesOutcome}
@@ -13,9 +13,6 @@ cast-result c =
     let few = rw (c .before .before .answer .given .1) at (c .before .before .before .before .pre) in
     record { fits = omega arith }
 
-add-result : tie.Need-add-result
-add-result c = record { fits = omega (arith, c .code-number .ensures, number-place (c .before .before .answer2 .given .0 .0) .1) }
-
 returns : tie.Need-returns
 unfolding bytesOutcome answerOf
 returns c = rw (c .before .before .answer .given .1)
@@ -27,11 +24,6 @@ returns-2 c = rw (c .before .before .answer2 .given .1, c .code-number .ensures)
 pub answer-number-spec : {M : Type 1} → statement M
 answer-number-spec =
     tie.close
-    (tie.spec
-    (λ c. search needs)
-    cast-result
-    (λ c. search needs)
-    (λ c κs. search needs)
-    add-result
-    returns
-    returns-2)
+    (tie.spec (λ c. search needs) cast-result (λ c. search needs) (λ c κs. search needs)
+    (λ c. record { fits = omega (arith, c .code-number .ensures, number-place (c .before .before .answer2 .given .0 .0) .1) })
+    returns returns-2)

@@ -1,4 +1,4 @@
--- `distelhut_write` meets its contract: the answer's number, and the buffer that was lent on.
+-- `distelhut_write` meets its contract: the answer's number, and the buffer that was passed on.
 use mathlib.Core.Path.{ap, _∙_}
 use borrow.Author.Needs.{needs}
 use Rattle.firmware.specs.Answer.{answerOf}
@@ -6,12 +6,6 @@ use Rattle.firmware.proofs.Counts.{write-fits}
 use Rattle.firmware.proofs.distelhut_write.Statement.{statement}
 use Rattle.firmware.proofs.distelhut_write.Tie as tie
 
-answer-number-requires : tie.Need-answer-number-requires
-answer-number-requires c κs = rw (c .before .before .write .ensures .0) (write-fits _ _ _)
-
-returns : tie.Need-returns
-returns c = let d = c .before .before .before .write .ensures in (c .answer-number .ensures ∙ ap answerOf (d .0), d .1)
-
 pub distelhut-write-spec : {M : Type 1} → statement M
 distelhut-write-spec =
-    tie.close (tie.spec (λ c κs. search needs) answer-number-requires (λ c. search needs) returns)
+    tie.close (tie.spec (λ c κs. search needs) (λ c κs. rw (c .before .before .write .ensures .0) (write-fits _ _ _)) (λ c. search needs) (λ c. let d = c .before .before .before .write .ensures in (c .answer-number .ensures ∙ ap answerOf (d .0), d .1)))

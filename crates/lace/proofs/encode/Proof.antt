@@ -3,12 +3,13 @@ use mathlib.Core.Path.{ap, _∙_}
 use native.Mathlib.Omega.{arith}
 use borrow.Author.Needs.{needs}
 use Rattle.basis.specs.Outcome.{bytesOutcome}
-use Rattle.basis.proofs.Outcome.{stop-told, pass-told, stop-below, refusal-leaves, handed-leaves}
+use Rattle.basis.proofs.Outcome.{stop-given, pass-given, stop-below, refusal-leaves, handed-leaves}
+use Rattle.ascii.specs.Ldh.{isAllLdh}
+use Rattle.ascii.proofs.text_all_ldh.Reads as text-all-ldh-reads
 use Rattle.utf16.specs.Answer.{unitsOutcome}
 use Rattle.labels.proofs.FirstTests.{check-stops, check-passes, text-checked}
-use Rattle.lace.specs.Octets.{isAllLdh}
 use Rattle.lace.specs.Answer.{encodeOutcome}
-use Rattle.lace.proofs.EncodeLaws.{Converted, converts, not-refused, units-fit, units-lent, units-are, units-some, by-units, label-is, text-long}
+use Rattle.lace.proofs.EncodeLaws.{Converted, converts, not-refused, units-fit, units-long, units-are, units-some, by-units, label-is, text-long}
 use Rattle.lace.proofs.encode.Statement.{statement}
 use Rattle.lace.proofs.encode.Tie as tie
 use Rattle.lace.proofs.encode.Reads as reads
@@ -16,7 +17,6 @@ use Rattle.lace.proofs.encode.Lts as lts
 use Rattle.basis.proofs.bytes_error.Reads as bytes-error-reads
 use Rattle.labels.proofs.check_text.Reads as check-text-reads
 use Rattle.utf16.proofs.to_units.Reads as to-units-reads
-use Rattle.lace.proofs.octets.text_all_ldh.Reads as text-all-ldh-reads
 use Rattle.lace.proofs.encoding.encode_units.Reads as encode-units-reads
 
 returns : tie.Need-returns
@@ -31,7 +31,7 @@ returns-2 c =
     let h = c .before .before in
     let p = h .before in
     refusal-leaves (encodeOutcome isAllLdh _ _) _ _ _ 6 0 (ap bytesOutcome (c .bytes-error2 .ensures))
-    (check-passes _ _ (p .before .before .check-text .ensures) _ (p .enum-told .given .1) ∙ stop-told 6 0 _ _ _ (h .text-all-ldh .ensures) (c .before .if1 .taken))
+    (check-passes _ _ (p .before .before .check-text .ensures) _ (p .enum-told .given .1) ∙ stop-given 6 0 _ _ _ (h .text-all-ldh .ensures) (c .before .if1 .taken))
 
 returns-3 : tie.Need-returns-3
 unfolding bytesOutcome encodeOutcome
@@ -39,7 +39,7 @@ returns-3 c =
     let h = c .before .before .before in
     let p = h .before in
     refusal-leaves (encodeOutcome isAllLdh _ _) _ _ _ 3 0 (ap bytesOutcome (c .bytes-error3 .ensures))
-    (check-passes _ _ (p .before .before .check-text .ensures) _ (p .enum-told .given .1) ∙ pass-told 6 0 _ _ _ (h .text-all-ldh .ensures) (c .before .before .if1 .left)
+    (check-passes _ _ (p .before .before .check-text .ensures) _ (p .enum-told .given .1) ∙ pass-given 6 0 _ _ _ (h .text-all-ldh .ensures) (c .before .before .if1 .left)
     ∙ stop-below 3 0 _ 63 _ (text-long (p .before .before .before .before .before .args .text .now) (omega (arith, c .before .if2 .taken))))
 
 -- after the call of the converter
@@ -57,7 +57,7 @@ array-share-prefix-units c = units-fit (converted (c .before .before .before .be
 
 slice-aggregate-encode-units : tie.Need-slice-aggregate-encode-units
 unfolding unitsOutcome
-slice-aggregate-encode-units c = units-lent (converted (c .before .before .before .before .before)) (ap unitsOutcome (c .before .before .answer2 .given .1))
+slice-aggregate-encode-units c = units-long (converted (c .before .before .before .before .before)) (ap unitsOutcome (c .before .before .answer2 .given .1))
 
 encode-units-requires : tie.Need-encode-units-requires
 unfolding unitsOutcome
@@ -81,32 +81,15 @@ returns-5 c =
     let p = h .before in
     let us = units-are (converted u) (ap unitsOutcome (a .answer2 .given .1)) in
     handed-leaves (encodeOutcome isAllLdh _ _) _ _ _ _ _ _
-    (check-passes _ _ (p .before .before .check-text .ensures) _ (p .enum-told .given .1) ∙ pass-told _ _ _ _ _ (h .text-all-ldh .ensures) (f .before .if1 .left)
+    (check-passes _ _ (p .before .before .check-text .ensures) _ (p .enum-told .given .1) ∙ pass-given _ _ _ _ _ (h .text-all-ldh .ensures) (f .before .if1 .left)
     ∙ by-units _ _ us)
     (label-is _ _ us) (c .before .before .encode-units .ensures)
 
 pub encode-spec : {M : Type 1} → statement M
 encode-spec =
     tie.close
-    (tie.spec
-    (λ c κs. search needs)
-    (λ c. search needs)
-    (λ c κs. search needs)
-    returns
-    (λ c. search needs)
-    (λ c κs. search needs)
-    (λ c κs. search needs)
-    returns-2
-    (λ c κs. search needs)
-    returns-3
-    (λ c. search needs)
-    (λ c κs. search needs)
-    (λ c. search needs)
-    (λ c κs. search needs)
-    (λ c. search needs)
-    array-share-prefix-units
-    slice-aggregate-encode-units
-    encode-units-requires
-    returns-4
-    (λ c. search needs)
-    returns-5)
+    (tie.spec (λ c κs. search needs) (λ c. search needs) (λ c κs. search needs) returns
+    (λ c. search needs) (λ c κs. search needs) (λ c κs. search needs) returns-2
+    (λ c κs. search needs) returns-3 (λ c. search needs) (λ c κs. search needs) (λ c. search needs)
+    (λ c κs. search needs) (λ c. search needs) array-share-prefix-units slice-aggregate-encode-units
+    encode-units-requires returns-4 (λ c. search needs) returns-5)

@@ -39,17 +39,5 @@ returns-2 c = holding-end _ _ _ _ _ _ (c .before .loop .inv .0) (c .loop-test .l
 pub keep-spec : {M : Type 1} → statement M
 keep-spec =
     tie.close
-    (tie.spec
-    Inv-loop
-    μ-loop
-    loop-holds
-    same-length
-    returns
-    (λ c. search needs)
-    slice-write-line
-    (λ c. search needs)
-    (λ c. search needs)
-    (λ c. search needs)
-    loop-again
-    same-length-2
-    returns-2)
+    (tie.spec Inv-loop μ-loop loop-holds same-length returns (λ c. search needs) slice-write-line
+    (λ c. search needs) (λ c. search needs) (λ c. search needs) loop-again same-length-2 returns-2)

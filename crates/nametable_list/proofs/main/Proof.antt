@@ -1,27 +1,15 @@
--- `main` meets its contract: what is printed stands in front of the buffer.
+-- `main` meets its contract: what is printed is at the front of the buffer.
 use Rattle.basis.proofs.Parts.{front-fits, front-long}
 use Rattle.nametable_list.specs.Listing.{listing}
 use borrow.Author.Needs.{needs}
 use Rattle.nametable_list.proofs.main.Statement.{statement}
 use Rattle.nametable_list.proofs.main.Tie as tie
 
-array-share-prefix-out : tie.Need-array-share-prefix-out
-array-share-prefix-out c = let e = c .before .put-believed .ensures in front-fits _ (listing _) _ _ (e .0) (e .1)
-
-slice-aggregate-print : tie.Need-slice-aggregate-print
-slice-aggregate-print c = let e = c .before .before .put-believed .ensures in front-long _ (listing _) _ _ (e .0) (e .1)
-
 pub main-spec : {M : Type 1} → statement M
 main-spec =
     tie.close
-    (tie.spec
-    (λ c. search needs)
-    (λ c κs. search needs)
-    (λ c. search needs)
-    (λ c. search needs)
-    (λ c. search needs)
-    (λ c κs. search needs)
-    array-share-prefix-out
-    slice-aggregate-print
-    (λ c κs. search needs)
-    (λ c. search needs))
+    (tie.spec (λ c. search needs) (λ c κs. search needs) (λ c. search needs) (λ c. search needs)
+    (λ c. search needs) (λ c κs. search needs)
+    (λ c. let e = c .before .put-believed .ensures in front-fits _ (listing _) _ _ (e .0) (e .1))
+    (λ c. let e = c .before .before .put-believed .ensures in front-long _ (listing _) _ _ (e .0) (e .1))
+    (λ c κs. search needs) (λ c. search needs))

@@ -4,7 +4,6 @@ use native.Mathlib.Omega.{arith}
 use borrow.Author.Needs.{needs}
 use Rattle.basis.specs.Outcome.{bytesOutcome}
 use Rattle.report.specs.Lines.{listLine}
-use Rattle.report.proofs.Writes.{stored-long}
 use Rattle.report.proofs.LineLaws.{points-line-length, list-line-length, line-refused, line-done}
 use Rattle.report.proofs.list_line.Statement.{statement}
 use Rattle.report.proofs.list_line.Tie as tie
@@ -23,7 +22,7 @@ put-list-line-requires c κs =
     omega (arith, list-line-length (a .reader) (a .letter) (a .points .now), points-line-length (a .points .now))
 
 same-length : tie.Need-same-length
-same-length c = stored-long (c .before .before .put-list-line .ensures)
+same-length c = c .before .before .put-list-line .ensures .long
 
 returns-2 : tie.Need-returns-2
 unfolding bytesOutcome
@@ -36,11 +35,5 @@ returns-2 c =
 pub list-line-spec : {M : Type 1} → statement M
 list-line-spec =
     tie.close
-    (tie.spec
-    (λ c κs. search needs)
-    (λ c. search needs)
-    (λ c κs. search needs)
-    returns
-    put-list-line-requires
-    same-length
-    returns-2)
+    (tie.spec (λ c κs. search needs) (λ c. search needs) (λ c κs. search needs) returns
+    put-list-line-requires same-length returns-2)

@@ -4,7 +4,6 @@ use native.Mathlib.Omega.{arith}
 use borrow.Author.Needs.{needs}
 use Rattle.basis.specs.Outcome.{bytesOutcome}
 use Rattle.report.specs.Lines.{pointsLine}
-use Rattle.report.proofs.Writes.{stored-long}
 use Rattle.report.proofs.LineLaws.{points-line-length, line-refused, line-done}
 use Rattle.report.proofs.points_line.Statement.{statement}
 use Rattle.report.proofs.points_line.Tie as tie
@@ -20,7 +19,7 @@ put-points-line-requires : tie.Need-put-points-line-requires
 put-points-line-requires c κs = omega (arith, points-line-length (c .before .before .before .before .before .args .points .now))
 
 same-length : tie.Need-same-length
-same-length c = stored-long (c .before .before .put-points-line .ensures)
+same-length c = c .before .before .put-points-line .ensures .long
 
 returns-2 : tie.Need-returns-2
 unfolding bytesOutcome
@@ -32,11 +31,5 @@ returns-2 c =
 pub points-line-spec : {M : Type 1} → statement M
 points-line-spec =
     tie.close
-    (tie.spec
-    (λ c κs. search needs)
-    (λ c. search needs)
-    (λ c κs. search needs)
-    returns
-    put-points-line-requires
-    same-length
-    returns-2)
+    (tie.spec (λ c κs. search needs) (λ c. search needs) (λ c κs. search needs) returns
+    put-points-line-requires same-length returns-2)

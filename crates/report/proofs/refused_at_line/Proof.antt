@@ -4,7 +4,6 @@ use native.Mathlib.Omega.{arith}
 use borrow.Author.Needs.{needs}
 use Rattle.basis.specs.Outcome.{bytesOutcome}
 use Rattle.report.specs.Lines.{refusedAtLine}
-use Rattle.report.proofs.Writes.{stored-long}
 use Rattle.report.proofs.LineLaws.{number-length, refused-at-length, line-refused, line-done}
 use Rattle.report.proofs.refused_at_line.Statement.{statement}
 use Rattle.report.proofs.refused_at_line.Tie as tie
@@ -22,7 +21,7 @@ put-refused-at-line-requires c κs =
     omega (arith, refused-at-length (a .code) (a .position), number-length (a .code))
 
 same-length : tie.Need-same-length
-same-length c = stored-long (c .before .before .put-refused-at-line .ensures)
+same-length c = c .before .before .put-refused-at-line .ensures .long
 
 returns-2 : tie.Need-returns-2
 unfolding bytesOutcome
@@ -34,13 +33,5 @@ returns-2 c =
 pub refused-at-line-spec : {M : Type 1} → statement M
 refused-at-line-spec =
     tie.close
-    (tie.spec
-    (λ c κs. search needs)
-    (λ c κs. search needs)
-    (λ c. search needs)
-    (λ c. search needs)
-    (λ c κs. search needs)
-    returns
-    put-refused-at-line-requires
-    same-length
-    returns-2)
+    (tie.spec (λ c κs. search needs) (λ c κs. search needs) (λ c. search needs) (λ c. search needs)
+    (λ c κs. search needs) returns put-refused-at-line-requires same-length returns-2)

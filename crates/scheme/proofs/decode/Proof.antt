@@ -1,4 +1,4 @@
--- `decode` meets its contract: each scheme's own entry does.
+-- `decode` meets its contract: each scheme's own function does.
 use borrow.Author.Needs.{needs}
 use Rattle.scheme.proofs.decode.Statement.{statement}
 use Rattle.scheme.proofs.decode.Tie as tie
@@ -12,12 +12,5 @@ returns-2 c = rw (c .before .before .before .before .enum-told2 .given .1) (c .b
 pub decode-spec : {M : Type 1} → statement M
 decode-spec =
     tie.close
-    (tie.spec
-    (λ c. search needs)
-    (λ c κs. search needs)
-    (λ c. search needs)
-    (λ c κs. search needs)
-    (λ c. search needs)
-    returns
-    (λ c. search needs)
-    returns-2)
+    (tie.spec (λ c. search needs) (λ c κs. search needs) (λ c. search needs) (λ c κs. search needs)
+    (λ c. search needs) returns (λ c. search needs) returns-2)

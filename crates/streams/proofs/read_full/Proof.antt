@@ -45,20 +45,6 @@ loop-less c =
 pub read-full-spec : {M : Type 1} → statement M
 read-full-spec =
     tie.close
-    (tie.spec
-    Inv-loop
-    μ-loop
-    (λ c. search needs)
-    (λ c. search needs)
-    (λ c. search needs)
-    (λ c. search needs)
-    (λ c κs. search needs)
-    (λ c. search needs)
-    kept
-    returns
-    (λ c. search needs)
-    add-done
-    loop-less
-    loop-again
-    (λ c. search needs)
-    (λ c. counts _ _ (omega arith)))
+    (tie.spec Inv-loop μ-loop (λ c. search needs) (λ c. search needs) (λ c. search needs)
+    (λ c. search needs) (λ c κs. search needs) (λ c. search needs) kept returns (λ c. search needs)
+    add-done loop-less loop-again (λ c. search needs) (λ c. counts _ _ (omega arith)))

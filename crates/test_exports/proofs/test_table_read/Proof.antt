@@ -1,4 +1,4 @@
--- `test_table_read` meets its contract: the entry does, and its answer is stored.
+-- `test_table_read` meets its contract: the function does, and its answer is stored.
 use borrow.Author.Needs.{needs}
 use Rattle.test_exports.proofs.test_table_read.Statement.{statement}
 use Rattle.test_exports.proofs.test_table_read.Tie as tie
@@ -6,8 +6,5 @@ use Rattle.test_exports.proofs.test_table_read.Tie as tie
 pub test-table-read-spec : {M : Type 1} → statement M
 test-table-read-spec =
     tie.close
-    (tie.spec
-    (λ c κs. search needs)
-    (λ c κs. search needs)
-    (λ c. search needs)
+    (tie.spec (λ c κs. search needs) (λ c κs. search needs) (λ c. search needs)
     (λ c. let s = c .before .before in rw (← s .before .before .read .ensures) (s .store-table .ensures)))

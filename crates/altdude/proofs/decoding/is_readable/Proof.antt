@@ -46,18 +46,6 @@ returns-2 c = reading-end _ _ _ _ _ (c .before .loop .inv) (c .loop-test .left)
 pub is-readable-spec : {M : Type 1} → statement M
 is-readable-spec =
     tie.close
-    (tie.spec
-    Inv-loop
-    μ-loop
-    loop-holds
-    (λ c. search needs)
-    (λ c κs. search needs)
-    cast-symbol
-    advance-requires
-    (λ c. search needs)
-    (λ c. search needs)
-    returns
-    (λ c. search needs)
-    (λ c. search needs)
-    loop-again
-    returns-2)
+    (tie.spec Inv-loop μ-loop loop-holds (λ c. search needs) (λ c κs. search needs) cast-symbol
+    advance-requires (λ c. search needs) (λ c. search needs) returns (λ c. search needs)
+    (λ c. search needs) loop-again returns-2)

@@ -60,21 +60,6 @@ returns-2 c = putting-end _ _ _ _ _ _ _ (c .before .loop .inv .1) (c .loop-test 
 pub put-text-spec : {M : Type 1} → statement M
 put-text-spec =
     tie.close
-    (tie.spec
-    Inv-loop
-    μ-loop
-    loop-holds
-    (λ c. search needs)
-    (λ c κs. search needs)
-    cast-symbol
-    advance-requires
-    (λ c. search needs)
-    (λ c. search needs)
-    same-length
-    returns
-    put-symbol-requires
-    (λ c. search needs)
-    (λ c. omega arith)
-    loop-again
-    same-length-2
-    returns-2)
+    (tie.spec Inv-loop μ-loop loop-holds (λ c. search needs) (λ c κs. search needs) cast-symbol
+    advance-requires (λ c. search needs) (λ c. search needs) same-length returns put-symbol-requires
+    (λ c. search needs) (λ c. omega arith) loop-again same-length-2 returns-2)

@@ -62,22 +62,7 @@ returns c =
 pub put-group-spec : {M : Type 1} → statement M
 put-group-spec =
     tie.close
-    (tie.spec
-    Inv-loop
-    μ-loop
-    (λ c κs. search needs)
-    (λ c. search needs)
-    sub-j
-    (λ c. search needs)
-    (λ c κs. search needs)
-    slice-write-label
-    loop-holds
-    sub-j-2
-    (λ c. search needs)
-    (λ c. search needs)
-    (λ c κs. search needs)
-    slice-write-label-2
-    (λ c. omega arith)
-    loop-again
-    same-length
-    returns)
+    (tie.spec Inv-loop μ-loop (λ c κs. search needs) (λ c. search needs) sub-j (λ c. search needs)
+    (λ c κs. search needs) slice-write-label loop-holds sub-j-2 (λ c. search needs)
+    (λ c. search needs) (λ c κs. search needs) slice-write-label-2 (λ c. omega arith) loop-again
+    same-length returns)

@@ -23,11 +23,5 @@ returns-2 c =
 pub put-item-spec : {M : Type 1} → statement M
 put-item-spec =
     tie.close
-    (tie.spec
-    slice-write-label
-    (λ c. search needs)
-    (λ c. search needs)
-    returns
-    put-group-requires
-    (λ c. search needs)
-    returns-2)
+    (tie.spec slice-write-label (λ c. search needs) (λ c. search needs) returns put-group-requires
+    (λ c. search needs) returns-2)

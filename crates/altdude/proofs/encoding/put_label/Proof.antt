@@ -40,19 +40,9 @@ returns c =
 pub put-label-spec : {M : Type 1} → statement M
 put-label-spec =
     tie.close
-    (tie.spec
-    Inv-loop
-    μ-loop
-    loop-holds
-    (λ c. search needs)
-    (λ c. search needs)
+    (tie.spec Inv-loop μ-loop loop-holds (λ c. search needs) (λ c. search needs)
     (λ c κs.
     let l = c .before .before .before in
     let t = l .before .before .before .args .text .now in
     omega (arith, item-fits t _ (l .loop .done) (omega arith) _ _ _ (l .loop .inv .0), l .loop .inv .0 .long))
-    (λ c κs. search needs)
-    (λ c. search needs)
-    (λ c. search needs)
-    loop-again
-    same-length
-    returns)
+    (λ c κs. search needs) (λ c. search needs) (λ c. search needs) loop-again same-length returns)

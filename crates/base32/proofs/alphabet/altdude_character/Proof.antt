@@ -1,4 +1,4 @@
--- The table's entry, or 0 past its end.
+-- The table's element, or 0 past its end.
 use mathlib.Core.Path.{refl, sym}
 use native.Mathlib.Omega.{arith}
 use borrow.Author.Needs.{needs}

@@ -1,4 +1,4 @@
--- The loop's invariant: the first i octets stand before what the buffer held. Each turn stores one more.
+-- The loop's invariant: the first i octets are before what the buffer held. Each turn stores one more.
 use Prim.Native.Nat.{_-_, _≤_}
 use mathlib.Core.Path.{_≡_, refl}
 use mathlib.Core.List.{_++_}
@@ -42,14 +42,5 @@ returns c =
 pub put-octets-spec : {M : Type 1} → statement M
 put-octets-spec =
     tie.close
-    (tie.spec
-    Inv-loop
-    μ-loop
-    loop-holds
-    octet-requires
-    (λ c. omega arith)
-    (λ c. search needs)
-    (λ c. search needs)
-    loop-again
-    (λ c. search needs)
-    returns)
+    (tie.spec Inv-loop μ-loop loop-holds octet-requires (λ c. omega arith) (λ c. search needs)
+    (λ c. search needs) loop-again (λ c. search needs) returns)

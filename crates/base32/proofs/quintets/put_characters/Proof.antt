@@ -1,4 +1,4 @@
--- The loop's invariant: the first i characters stand before what the buffer held. Each turn stores one more.
+-- The loop's invariant: the first i characters are before what the buffer held. Each turn stores one more.
 use Prim.Native.Nat.{_-_, _≤_}
 use mathlib.Core.Path.{_≡_, refl, ap, _∙_}
 use mathlib.Core.List.{_++_}
@@ -39,15 +39,6 @@ returns c =
 pub put-characters-spec : {M : Type 1} → statement M
 put-characters-spec =
     tie.close
-    (tie.spec
-    Inv-loop
-    μ-loop
-    loop-holds
-    (λ c κs. search needs)
-    (λ c κs. search needs)
-    (λ c. omega arith)
-    (λ c. search needs)
-    (λ c. search needs)
-    loop-again
-    (λ c. search needs)
+    (tie.spec Inv-loop μ-loop loop-holds (λ c κs. search needs) (λ c κs. search needs)
+    (λ c. omega arith) (λ c. search needs) (λ c. search needs) loop-again (λ c. search needs)
     returns)

@@ -10,8 +10,5 @@ returns c =
     let k = c .before .before .before .before in
     wrote-line _ _ (k .before .believed-bytes .ensures) _ _ _ (k .if1 .taken) (c .before .before .answer-line .ensures)
 
-returns-2 : tie.Need-returns-2
-returns-2 c = wrote-none _ _ (c .before .believed-bytes .ensures) _ _ _ (c .if1 .left) (refl, refl)
-
 pub answer-last-spec : {M : Type 1} → statement M
-answer-last-spec = tie.close (tie.spec (λ c κs. search needs) (λ c κs. search needs) (λ c. search needs) returns returns-2)
+answer-last-spec = tie.close (tie.spec (λ c κs. search needs) (λ c κs. search needs) (λ c. search needs) returns (λ c. wrote-none _ _ (c .before .believed-bytes .ensures) _ _ _ (c .if1 .left) (refl, refl)))

@@ -1,4 +1,4 @@
--- `answers::answer_line` meets its contract: an answer below 1000 is of a text, any other of a refusal.
+-- `answers::answer_line` meets its contract: an answer below 1000 is of a text, any other a refusal.
 use native.Mathlib.Omega.{arith}
 use Rattle.report.proofs.LineLaws.{line-written}
 use Rattle.bench_list.specs.Listing.{benchLine}
@@ -21,7 +21,7 @@ slice-aggregate-text-line c =
 text-line-requires : tie.Need-text-line-requires
 text-line-requires c κs =
     let d = c .before .before .before .before .distelhut-read in
-    read-below _ _ _ _ (d .ensures .0) (d .ensures .1) (c .before .before .if1 .taken) .bytes
+    read-below _ _ _ _ (d .ensures .0) (d .ensures .1) (c .before .before .if1 .taken) .converted
 
 returns : tie.Need-returns
 returns c =
@@ -44,17 +44,6 @@ returns-2 c =
 pub answer-line-spec : {M : Type 1} → statement M
 answer-line-spec =
     tie.close
-    (tie.spec
-    (λ c. search needs)
-    (λ c κs. search needs)
-    (λ c. search needs)
-    array-share-prefix-text
-    slice-aggregate-text-line
-    text-line-requires
-    (λ c κs. search needs)
-    (λ c. search needs)
-    returns
-    (λ c κs. search needs)
-    (λ c κs. search needs)
-    (λ c. search needs)
-    returns-2)
+    (tie.spec (λ c. search needs) (λ c κs. search needs) (λ c. search needs) array-share-prefix-text
+    slice-aggregate-text-line text-line-requires (λ c κs. search needs) (λ c. search needs) returns
+    (λ c κs. search needs) (λ c κs. search needs) (λ c. search needs) returns-2)

@@ -15,9 +15,6 @@ Inv-loop chunk line₀ held out₀ kept₀ at₀ from₀ line out kept at from =
 abbrev μ-loop : tie.MeasureT-loop
 μ-loop chunk line₀ held out₀ kept₀ at₀ from₀ line out kept at from = length chunk - from
 
-loop-holds : tie.Need-loop-holds Inv-loop μ-loop
-loop-holds c = answering-start _ _ _ _ (c .before .before .before .pre .0)
-
 same-length : tie.Need-same-length Inv-loop μ-loop
 same-length c = line-kept (c .before .before .before .before .before .before .before .before .loop .inv) _ (c .before .before .before .before .before .next-line .ensures .1)
 
@@ -44,9 +41,6 @@ slice-aggregate-answer-line c =
 sub-answer-line : tie.Need-sub-answer-line Inv-loop μ-loop
 sub-answer-line c = at-fits (c .before .before .before .before .before .before .before .before .before .loop .inv .filling) (c .before .before .before .before .before .before .before .before .before .before .before .before .before .pre .1)
 
-part-answer-line-start : tie.Need-part-answer-line-start Inv-loop μ-loop
-part-answer-line-start c = sub-answer-line c
-
 answer-line-requires : tie.Need-answer-line-requires Inv-loop μ-loop
 answer-line-requires c κs =
     let l = c .before .before .before .before .before .before .before .before .before .before in
@@ -68,37 +62,13 @@ loop-less c =
     let n = later _ (l .line) (l .kept) _ _ (s .next-line .ensures .1) _ (s .next-line .ensures .0) _ _ (c .before .before .before .before .before .before .step2 .given .1) in
     omega arith
 
-same-length-3 : tie.Need-same-length-3 Inv-loop μ-loop
-same-length-3 c = c .before .loop .inv .long
-
-same-length-4 : tie.Need-same-length-4 Inv-loop μ-loop
-same-length-4 c = out-long (c .before .loop .inv .filling) (c .before .before .before .before .before .pre .1)
-
-returns-2 : tie.Need-returns-2 Inv-loop μ-loop
-returns-2 c = answering-end (c .before .loop .inv) (c .loop-test .left)
-
 pub answer-chunk-spec : {M : Type 1} → statement M
 answer-chunk-spec =
     tie.close
-    (tie.spec
-    Inv-loop
-    μ-loop
-    loop-holds
-    (λ c κs. search needs)
-    (λ c. search needs)
-    same-length
-    same-length-2
-    returns
-    (λ c. search needs)
-    slice-reshare-prefix-answer-line
-    slice-aggregate-answer-line
-    sub-answer-line
-    part-answer-line-start
-    (λ c. search needs)
-    answer-line-requires
-    add-at
-    loop-less
-    loop-again
-    same-length-3
-    same-length-4
-    returns-2)
+    (tie.spec Inv-loop μ-loop (λ c. answering-start _ _ _ _ (c .before .before .before .pre .0))
+    (λ c κs. search needs) (λ c. search needs) same-length same-length-2 returns (λ c. search needs)
+    slice-reshare-prefix-answer-line slice-aggregate-answer-line sub-answer-line
+    (λ c. sub-answer-line c) (λ c. search needs) answer-line-requires add-at loop-less loop-again
+    (λ c. c .before .loop .inv .long)
+    (λ c. out-long (c .before .loop .inv .filling) (c .before .before .before .before .before .pre .1))
+    (λ c. answering-end (c .before .loop .inv) (c .loop-test .left)))

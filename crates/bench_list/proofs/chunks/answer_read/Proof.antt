@@ -32,12 +32,5 @@ returns-2 c =
 pub answer-read-spec : {M : Type 1} → statement M
 answer-read-spec =
     tie.close
-    (tie.spec
-    (λ c. search needs)
-    (λ c. search needs)
-    slice-aggregate-answer-chunk
-    answer-chunk-requires
-    returns
-    (λ c. search needs)
-    (λ c. search needs)
-    returns-2)
+    (tie.spec (λ c. search needs) (λ c. search needs) slice-aggregate-answer-chunk
+    answer-chunk-requires returns (λ c. search needs) (λ c. search needs) returns-2)

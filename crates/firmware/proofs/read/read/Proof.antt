@@ -1,31 +1,28 @@
--- `read::read` meets its contract: an unknown number is told, a known scheme reads.
-use mathlib.Core.Path.{sym, _∙_}
+-- `read::read` meets its contract: an unknown number is refused, a known scheme reads.
+use mathlib.Core.Path.{refl, ap}
 use borrow.Author.Needs.{needs}
+use Rattle.basis.specs.Outcome.{bytesOutcome}
+use Rattle.basis.proofs.Outcome.{refusal-leaves, handed-leaves}
 use Rattle.firmware.specs.Answer.{readOutcome, readText}
-use Rattle.firmware.proofs.Naming.{unknown-answered, unknown-left, known-made}
+use Rattle.firmware.proofs.Naming.{stop-unknown, pass-known, known-is}
 use Rattle.firmware.proofs.read.read.Statement.{statement}
 use Rattle.firmware.proofs.read.read.Tie as tie
 
 returns : tie.Need-returns
-unfolding readOutcome readText
-returns c = (search unknown-answered, search unknown-left)
+unfolding bytesOutcome readOutcome
+returns c =
+    refusal-leaves _ _ _ _ 11 0 (ap bytesOutcome (c .bytes-error .ensures)) (stop-unknown _ _ (c .before .before .before .of-number .ensures) _ (c .before .enum-told .given .1))
 
 returns-2 : tie.Need-returns-2
 unfolding readOutcome readText
 returns-2 c =
-    let r = c .before .before .read-by .ensures in
-    let d = c .before .before .before .before .before in
-    known-made _ _ _ _ _ (sym (d .before .before .of-number .ensures) ∙ d .named .given .1) _ _ (r .0) (r .1)
+    let w = c .before .before in
+    let d = w .before .before .before in
+    let n = d .before .before .of-number .ensures in
+    handed-leaves _ _ _ _ _ _ _ (pass-known _ _ n _ _ (d .named .given .1)) refl (rw (known-is _ _ n _ (d .named .given .1)) at (w .read-by .ensures))
 
 pub read-spec : {M : Type 1} → statement M
 read-spec =
     tie.close
-    (tie.spec
-    (λ c κs. search needs)
-    (λ c. search needs)
-    (λ c κs. search needs)
-    (λ c. search needs)
-    (λ c κs. search needs)
-    returns
-    (λ c. search needs)
-    returns-2)
+    (tie.spec (λ c κs. search needs) (λ c. search needs) (λ c κs. search needs) (λ c. search needs)
+    (λ c κs. search needs) returns (λ c. search needs) returns-2)

@@ -1,7 +1,7 @@
 -- The error of a byte outside the alphabet, and every other.
 use borrow.Author.Needs.{needs}
 use Rattle.utf16.specs.Answer.{pointsOutcome}
-use Rattle.lace.specs.Stepping.{errorAfterPrefix}
+use Rattle.lace.specs.Internal.{errorAfterPrefix}
 use Rattle.lace.proofs.DecodeLaws.{other-error}
 use Rattle.lace.proofs.decoding.after_prefix_error.Statement.{statement}
 use Rattle.lace.proofs.decoding.after_prefix_error.Tie as tie
@@ -18,10 +18,5 @@ returns-2 c =
 pub after-prefix-error-spec : {M : Type 1} → statement M
 after-prefix-error-spec =
     tie.close
-    (tie.spec
-    (λ c. search needs)
-    (λ c. search needs)
-    (λ c κs. search needs)
-    (λ c κs. search needs)
-    returns
-    returns-2)
+    (tie.spec (λ c. search needs) (λ c. search needs) (λ c κs. search needs) (λ c κs. search needs)
+    returns returns-2)

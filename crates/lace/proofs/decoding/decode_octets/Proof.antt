@@ -4,10 +4,10 @@ use mathlib.Core.Bool.{not}
 use lib.Seq.{length-take-le}
 use borrow.Author.Needs.{needs}
 use native.Mathlib.Omega.{arith}
-use Rattle.basis.proofs.Outcome.{stop-if, pass-if, stop-told, pass-told, refusal-leaves, handed-leaves}
+use Rattle.basis.proofs.Outcome.{stop-if, pass-if, stop-given, pass-given, refusal-leaves, handed-leaves}
 use Rattle.utf16.specs.Units.{toPoints}
 use Rattle.utf16.specs.Answer.{pointsOutcome}
-use Rattle.lace.specs.Stepping.{octetsOutcome}
+use Rattle.lace.specs.Internal.{octetsOutcome}
 use Rattle.lace.proofs.DecodeLaws.{units-front, units-within, some-unpaired, none-unpaired, ldh-is, points-done}
 use Rattle.lace.proofs.decoding.decode_octets.Statement.{statement}
 use Rattle.lace.proofs.decoding.decode_octets.Tie as tie
@@ -29,7 +29,7 @@ unfolding pointsOutcome octetsOutcome
 returns c =
     let s = c .before .before .before .before in
     refusal-leaves (octetsOutcome _) _ _ _ 9 0 (ap pointsOutcome (c .points-error .ensures))
-    (stop-told 9 0 _ _ _ (ap not (s .stand-for-units .ensures)) (c .before .if1 .taken))
+    (stop-given 9 0 _ _ _ (ap not (s .stand-for-units .ensures)) (c .before .if1 .taken))
 
 returns-2 : tie.Need-returns-2
 unfolding pointsOutcome octetsOutcome
@@ -39,7 +39,7 @@ returns-2 c =
     let s = u .before in
     let p = s .before .before .before .put-units .ensures in
     refusal-leaves (octetsOutcome _) _ _ _ 9 0 (ap pointsOutcome (c .points-error2 .ensures))
-    (pass-told 9 0 _ _ _ (ap not (s .stand-for-units .ensures)) (e .if1 .left)
+    (pass-given 9 0 _ _ _ (ap not (s .stand-for-units .ensures)) (e .if1 .left)
     ∙ stop-if 9 0 _ _ (some-unpaired _ _ _ _ p _ (u .first-unpaired .ensures) (omega arith)))
 
 returns-3 : tie.Need-returns-3
@@ -51,9 +51,9 @@ returns-3 c =
     let s = u .before in
     let p = s .before .before .before .put-units .ensures in
     refusal-leaves (octetsOutcome _) _ _ _ 6 0 (ap pointsOutcome (c .points-error3 .ensures))
-    (pass-told 9 0 _ _ _ (ap not (s .stand-for-units .ensures)) (e .before .if1 .left)
+    (pass-given 9 0 _ _ _ (ap not (s .stand-for-units .ensures)) (e .before .if1 .left)
     ∙ pass-if 9 0 _ _ (none-unpaired _ _ _ _ p _ (u .first-unpaired .ensures) (omega (arith, e .if2 .left)))
-    ∙ stop-told 6 0 _ _ _ (ldh-is _ _ _ _ p _ (d .units-all-ldh .ensures)) (c .before .if3 .taken))
+    ∙ stop-given 6 0 _ _ _ (ldh-is _ _ _ _ p _ (d .units-all-ldh .ensures)) (c .before .if3 .taken))
 
 returns-4 : tie.Need-returns-4
 unfolding octetsOutcome
@@ -66,30 +66,16 @@ returns-4 c =
     let s = u .before in
     let p = s .before .before .before .put-units .ensures in
     handed-leaves (octetsOutcome _) _ _ _ _ _ _
-    (pass-told 9 0 _ _ _ (ap not (s .stand-for-units .ensures)) (e .before .if1 .left)
+    (pass-given 9 0 _ _ _ (ap not (s .stand-for-units .ensures)) (e .before .if1 .left)
     ∙ pass-if 9 0 _ _ (none-unpaired _ _ _ _ p _ (u .first-unpaired .ensures) (omega (arith, e .if2 .left)))
-    ∙ pass-told 6 0 _ _ _ (ldh-is _ _ _ _ p _ (d .units-all-ldh .ensures)) (l .if3 .left)
+    ∙ pass-given 6 0 _ _ _ (ldh-is _ _ _ _ p _ (d .units-all-ldh .ensures)) (l .if3 .left)
     ∙ sym (points-done _ _ _ _ p _ (u .first-unpaired .ensures) (omega (arith, e .if2 .left)) _ (s .before .before .before .before .before .before .before .pre)))
     (ap toPoints (sym (units-front _ _ _ _ p))) (t .to-points .ensures)
 
 pub decode-octets-spec : {M : Type 1} → statement M
 decode-octets-spec =
     tie.close
-    (tie.spec
-    slice-aggregate-put-units
-    (λ c κs. search needs)
-    array-share-prefix-units
-    slice-aggregate-row
-    stand-for-units-requires
-    (λ c κs. tt)
-    (λ c κs. tt)
-    (λ c κs. search needs)
-    returns
-    (λ c κs. search needs)
-    returns-2
-    (λ c κs. search needs)
-    returns-3
-    (λ c. search needs)
-    (λ c κs. tt)
-    (λ c. search needs)
-    returns-4)
+    (tie.spec slice-aggregate-put-units (λ c κs. search needs) array-share-prefix-units
+    slice-aggregate-row stand-for-units-requires (λ c κs. tt) (λ c κs. tt) (λ c κs. search needs)
+    returns (λ c κs. search needs) returns-2 (λ c κs. search needs) returns-3 (λ c. search needs)
+    (λ c κs. tt) (λ c. search needs) returns-4)

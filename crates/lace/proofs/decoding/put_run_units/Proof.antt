@@ -38,15 +38,5 @@ returns c = run-units-end _ _ _ _ _ _ (c .before .loop .inv .0) (c .loop-test .l
 pub put-run-units-spec : {M : Type 1} → statement M
 put-run-units-spec =
     tie.close
-    (tie.spec
-    Inv-loop
-    μ-loop
-    loop-holds
-    (λ c. search needs)
-    (λ c κs. omega arith)
-    (λ c κs. search needs)
-    (λ c. search needs)
-    (λ c. search needs)
-    loop-again
-    same-length
-    returns)
+    (tie.spec Inv-loop μ-loop loop-holds (λ c. search needs) (λ c κs. omega arith)
+    (λ c κs. search needs) (λ c. search needs) (λ c. search needs) loop-again same-length returns)

@@ -1,68 +1,46 @@
--- What is left are the units of the octets from `2 * i` on.
-use Prim.Native.Nat.{_/_, _+_, _*_, _-_, _≤_}
-use mathlib.Core.Path.{refl, sym}
-use lib.ListN.{length, drop}
+-- An even number of octets with room is not refused, and the last of an odd number makes no unit.
+use Prim.Native.Nat.{ℕ, _-_, _%_, _≤_}
+use mathlib.Core.Path.{_≡_, sym, ap, _∙_}
+use mathlib.Core.List.{List}
+use lib.ListN.{length, take}
+use lib.Seq.{length-take-le}
 use borrow.Author.Needs.{needs}
 use native.Mathlib.Omega.{arith}
-use Rattle.basis.proofs.Stores.{Storing, storing-all}
-use Rattle.wire.specs.Bytes.{toUnits}
-use Rattle.wire.proofs.RoundTrip.{length-toUnits}
-use Rattle.wire.proofs.Stores.{unit-turn, unit-end}
+use Rattle.basis.specs.Outcome.{done, bufferAfter}
+use Rattle.basis.proofs.Outcome.{done-not-refused, done-count}
+use Rattle.utf16.specs.Bytes.{unitsOfBytes}
+use Rattle.utf16.specs.Answer.{unitsOutcome, bytesToUnitsOutcome}
+use Rattle.utf16.proofs.BytePairs.{unitsOfBytes-even}
+use Rattle.utf16.proofs.Refusals.{units-done}
 use Rattle.lace.proofs.decoding.put_unit_pairs.Statement.{statement}
 use Rattle.lace.proofs.decoding.put_unit_pairs.Tie as tie
 
-abbrev Inv-loop : tie.InvT-loop
-Inv-loop octets units₀ n i₀ units i = Storing units₀ (toUnits octets) units i (toUnits (drop (2 * i) octets)) × (i ≤ length octets / 2)
+even-done : (os : List ℕ) (capacity : ℕ) → length os ≤ capacity → bytesToUnitsOutcome (take (length os - length os % 2) os) capacity ≡ done (length (unitsOfBytes os))
+even-done os capacity room =
+    let long : length (take (length os - length os % 2) os) ≡ length os - length os % 2 = length-take-le _ os (omega arith) in
+    units-done _ capacity (omega arith) (λ e. omega arith) _ (ap length (sym (unitsOfBytes-even os)))
 
-abbrev μ-loop : tie.MeasureT-loop
-μ-loop octets units₀ n i₀ units i = length octets / 2 - i
+slice-aggregate-bytes-to-units : tie.Need-slice-aggregate-bytes-to-units
+slice-aggregate-bytes-to-units c = sym (length-take-le _ _ (omega arith))
 
-loop-holds : tie.Need-loop-holds Inv-loop μ-loop
-loop-holds c = (storing-all _ _, omega arith)
-
-cast-units : tie.Need-cast-units Inv-loop μ-loop
-cast-units c = omega (arith, c .shared-slice-known .given (2 * c .before .before .loop .i))
-
-mul-units-2 : tie.Need-mul-units-2 Inv-loop μ-loop
-mul-units-2 c = omega (arith, c .shared-slice-known .given (2 * c .before .before .loop .i))
-
-cast-units-2 : tie.Need-cast-units-2 Inv-loop μ-loop
-cast-units-2 c = omega (arith, c .shared-slice-known2 .given (2 * c .before .before .before .loop .i + 1))
-
-add-units-2 : tie.Need-add-units-2 Inv-loop μ-loop
-add-units-2 c = omega (arith, c .before .shared-slice-known .given (2 * c .before .before .before .loop .i), c .shared-slice-known2 .given (2 * c .before .before .before .loop .i + 1))
-
-loop-again : tie.Need-loop-again Inv-loop μ-loop
-loop-again c = let l = c .before .before .before .loop in (unit-turn _ _ _ _ (l .inv .0) (omega arith) _ refl, omega arith)
-
-same-length : tie.Need-same-length Inv-loop μ-loop
-same-length c = c .before .loop .inv .0 .long
-
-returns : tie.Need-returns Inv-loop μ-loop
+returns : tie.Need-returns
+unfolding unitsOutcome bufferAfter
 returns c =
-    let e = unit-end _ _ _ _ (c .before .loop .inv .0) (c .loop-test .left) (omega arith) in
-    (sym (length-toUnits _), e .1)
+    let u = c .before .before .before .before .before in
+    let a = u .before .before .before .before .before .args in
+    let is = even-done (a .octets .now) (length (a .units .now)) (omega arith) in
+    (done-count (sym (u .bytes-to-units .ensures .0) ∙ ap unitsOutcome (c .before .answer .given .1)) is, u .bytes-to-units .ensures .1 ∙ rw (is, unitsOfBytes-even (a .octets .now)))
+
+returns-2 : tie.Need-returns-2
+unfolding unitsOutcome
+returns-2 c =
+    let u = c .before .before .before .before in
+    let a = u .before .before .before .before .before .args in
+    absurd (done-not-refused (even-done (a .octets .now) (length (a .units .now)) (omega arith)) (sym (u .bytes-to-units .ensures .0) ∙ ap unitsOutcome (c .enum-told .given .1)))
 
 pub put-unit-pairs-spec : {M : Type 1} → statement M
 put-unit-pairs-spec =
     tie.close
-    (tie.spec
-    Inv-loop
-    μ-loop
-    loop-holds
-    (λ c. search needs)
-    (λ c. search needs)
-    cast-units
-    mul-units-2
-    (λ c. search needs)
-    (λ c. search needs)
-    (λ c. search needs)
-    cast-units-2
-    add-units-2
-    (λ c. search needs)
-    (λ c. omega arith)
-    (λ c. search needs)
-    (λ c. search needs)
-    loop-again
-    same-length
-    returns)
+    (tie.spec (λ c. search needs) slice-aggregate-bytes-to-units (λ c κs. search needs)
+    (λ c. search needs) (λ c. search needs) (λ c. search needs) returns (λ c. search needs)
+    returns-2)

@@ -30,13 +30,5 @@ returns-5 c =
 pub stand-for-units-spec : {M : Type 1} → statement M
 stand-for-units-spec =
     tie.close
-    (tie.spec
-    (λ c κs. search needs)
-    (λ c. search needs)
-    returns
-    (λ c. search needs)
-    returns-2
-    returns-3
-    (λ c κs. search needs)
-    returns-4
-    returns-5)
+    (tie.spec (λ c κs. search needs) (λ c. search needs) returns (λ c. search needs) returns-2
+    returns-3 (λ c κs. search needs) returns-4 returns-5)

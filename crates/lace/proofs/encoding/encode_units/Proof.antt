@@ -34,15 +34,9 @@ returns-3 c =
 pub encode-units-spec : {M : Type 1} → statement M
 encode-units-spec =
     tie.close
-    (tie.spec
-    returns
-    (λ c. search needs)
-    (λ c κs. search needs)
-    returns-2
-    array-share-prefix-octets
+    (tie.spec returns (λ c. search needs) (λ c κs. search needs) returns-2 array-share-prefix-octets
     slice-aggregate-put-label
     (λ c κs.
     let s = c .before .before .before .before .before .before .before .before .before in
     omega (arith, slice-aggregate-put-label (c .before), c .before .before .if2 .left, s .pre .1))
-    (λ c. search needs)
-    returns-3)
+    (λ c. search needs) returns-3)

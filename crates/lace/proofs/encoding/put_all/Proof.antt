@@ -6,24 +6,24 @@ use borrow.Author.Needs.{needs}
 use Rattle.lace.proofs.encoding.put_all.Statement.{statement}
 use Rattle.lace.proofs.encoding.put_all.Tie as tie
 
-sub-to-bytes : tie.Need-sub-to-bytes
-sub-to-bytes c = omega (arith, length-set (c .before .before .args .octets .now) 0 255)
+sub-units-to-bytes : tie.Need-sub-units-to-bytes
+sub-units-to-bytes c = omega (arith, length-set (c .before .before .args .octets .now) 0 255)
 
-part-to-bytes-start : tie.Need-part-to-bytes-start
-part-to-bytes-start c = omega (arith, length-set (c .before .before .args .octets .now) 0 255)
+part-units-to-bytes-start : tie.Need-part-units-to-bytes-start
+part-units-to-bytes-start c = omega (arith, length-set (c .before .before .args .octets .now) 0 255)
 
 add-result : tie.Need-add-result
 add-result c =
     let b = c .before .before .before in
     let s = b .before .before .before .before in
-    omega (arith, s .pre .1, all-counted (s .args .units .now) (s .args .octets .now) (s .pre .1) _ _ (b .to-bytes .ensures .0) (c .bytes-written .ensures))
+    omega (arith, s .pre .1, all-counted (s .args .units .now) (s .args .octets .now) (s .pre .1) _ _ (b .units-to-bytes .ensures .0) (c .bytes-written .ensures))
 
 returns : tie.Need-returns
 returns c =
     let b = c .before .before .before in
     let s = b .before .before .before .before in (
-      omega (arith, all-counted (s .args .units .now) (s .args .octets .now) (s .pre .1) _ _ (b .to-bytes .ensures .0) (c .bytes-written .ensures)),
-      all-stored (s .args .units .now) (s .args .octets .now) (s .pre .1) _ (b .to-bytes .ensures .1),
+      omega (arith, all-counted (s .args .units .now) (s .args .octets .now) (s .pre .1) _ _ (b .units-to-bytes .ensures .0) (c .bytes-written .ensures)),
+      all-stored (s .args .units .now) (s .args .octets .now) (s .pre .1) _ (b .units-to-bytes .ensures .1),
     )
 
 same-length : tie.Need-same-length
@@ -34,13 +34,5 @@ same-length c =
 pub put-all-spec : {M : Type 1} → statement M
 put-all-spec =
     tie.close
-    (tie.spec
-    (λ c. search needs)
-    sub-to-bytes
-    part-to-bytes-start
-    (λ c. search needs)
-    (λ c κs. search needs)
-    (λ c κs. search needs)
-    add-result
-    same-length
-    returns)
+    (tie.spec (λ c. search needs) sub-units-to-bytes part-units-to-bytes-start (λ c. search needs)
+    (λ c κs. search needs) (λ c κs. search needs) add-result same-length returns)

@@ -29,23 +29,7 @@ returns-2 c =
 pub put-run-unit-spec : {M : Type 1} → statement M
 put-run-unit-spec =
     tie.close
-    (tie.spec
-    (λ c. search needs)
-    (λ c. search needs)
-    (λ c. search needs)
-    (λ c. search needs)
-    (λ c. search needs)
-    (λ c. search needs)
-    returns
-    (λ c κs. search needs)
-    (λ c. search needs)
-    (λ c. search needs)
-    cast-octets-3
-    (λ c. search needs)
-    slice-write-octets-3
-    (λ c. search needs)
-    (λ c. search needs)
-    slice-write-octets-4
-    (λ c. search needs)
-    (λ c. search needs)
-    returns-2)
+    (tie.spec (λ c. search needs) (λ c. search needs) (λ c. search needs) (λ c. search needs)
+    (λ c. search needs) (λ c. search needs) returns (λ c κs. search needs) (λ c. search needs)
+    (λ c. search needs) cast-octets-3 (λ c. search needs) slice-write-octets-3 (λ c. search needs)
+    (λ c. search needs) slice-write-octets-4 (λ c. search needs) (λ c. search needs) returns-2)

@@ -4,7 +4,7 @@ use native.Mathlib.Omega.{arith}
 use lib.ListN.{length, drop}
 use borrow.Author.Needs.{needs}
 use Rattle.basis.proofs.Stores.{Storing, storing-all}
-use Rattle.lace.specs.Stepping.{runSteps}
+use Rattle.lace.specs.Internal.{runSteps}
 use Rattle.lace.proofs.EncodeLaws.{step-few, runs-turn, runs-end}
 use Rattle.lace.proofs.encoding.put_runs.Statement.{statement}
 use Rattle.lace.proofs.encoding.put_runs.Tie as tie
@@ -45,15 +45,5 @@ returns c =
 pub put-runs-spec : {M : Type 1} → statement M
 put-runs-spec =
     tie.close
-    (tie.spec
-    Inv-loop
-    μ-loop
-    loop-holds
-    put-run-unit-requires
-    (λ c. search needs)
-    (λ c. search needs)
-    (λ c. search needs)
-    (λ c. search needs)
-    loop-again
-    same-length
-    returns)
+    (tie.spec Inv-loop μ-loop loop-holds put-run-unit-requires (λ c. search needs)
+    (λ c. search needs) (λ c. search needs) (λ c. search needs) loop-again same-length returns)

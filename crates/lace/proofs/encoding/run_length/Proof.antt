@@ -4,7 +4,7 @@ use mathlib.Core.Path.{_≡_}
 use native.Mathlib.Omega.{arith}
 use lib.ListN.{length, drop}
 use borrow.Author.Needs.{needs}
-use Rattle.lace.specs.Stepping.{sameHigh}
+use Rattle.lace.specs.Internal.{sameHigh}
 use Rattle.lace.proofs.EncodeLaws.{high-more, high-other, high-end}
 use Rattle.lace.proofs.encoding.run_length.Statement.{statement}
 use Rattle.lace.proofs.encoding.run_length.Tie as tie
@@ -33,15 +33,5 @@ returns-2 c = let l = c .before .loop in (high-end _ _ (l .i) _ _ (l .inv .2) (o
 pub run-length-spec : {M : Type 1} → statement M
 run-length-spec =
     tie.close
-    (tie.spec
-    Inv-loop
-    μ-loop
-    loop-holds
-    (λ c. search needs)
-    (λ c. search needs)
-    returns
-    (λ c. search needs)
-    (λ c. search needs)
-    (λ c. search needs)
-    loop-again
-    returns-2)
+    (tie.spec Inv-loop μ-loop loop-holds (λ c. search needs) (λ c. search needs) returns
+    (λ c. search needs) (λ c. search needs) (λ c. search needs) loop-again returns-2)

@@ -36,19 +36,6 @@ returns-2 c = let l = c .before .loop in (count-all _ (l .i) _ _ (omega arith) (
 pub run-count-spec : {M : Type 1} → statement M
 run-count-spec =
     tie.close
-    (tie.spec
-    Inv-loop
-    μ-loop
-    returns
-    loop-holds
-    (λ c. search needs)
-    (λ c. search needs)
-    (λ c. search needs)
-    (λ c. search needs)
-    (λ c. search needs)
-    (λ c κs. search needs)
-    add-r
-    (λ c. search needs)
-    (λ c. search needs)
-    loop-again
-    returns-2)
+    (tie.spec Inv-loop μ-loop returns loop-holds (λ c. search needs) (λ c. search needs)
+    (λ c. search needs) (λ c. search needs) (λ c. search needs) (λ c κs. search needs) add-r
+    (λ c. search needs) (λ c. search needs) loop-again returns-2)

@@ -18,30 +18,11 @@ Inv-loop bytes i₀ i = (i ≤ length bytes) × ((k : ℕ) → k < i → eqb (ge
 abbrev μ-loop : tie.MeasureT-loop
 μ-loop bytes i₀ i = length bytes - i
 
-loop-holds : tie.Need-loop-holds Inv-loop μ-loop
-loop-holds c = (omega arith, below-none _)
-
-returns : tie.Need-returns Inv-loop μ-loop
-returns c =
-    let l = c .before .before .before .loop in
-    sym (not-each _ _ (l .i) (omega arith) (ne-eqb _ _ (c .if1 .taken)))
-
-loop-again : tie.Need-loop-again Inv-loop μ-loop
-loop-again c = (omega arith, below-more _ _ (c .before .before .before .loop .inv .1) (eq-eqb _ _ (c .if1 .left)))
-
-returns-2 : tie.Need-returns-2 Inv-loop μ-loop
-returns-2 c = sym (each-at _ _ (λ k h. c .before .loop .inv .1 k (omega arith)))
-
 pub is-zero-spec : {M : Type 1} → statement M
 is-zero-spec =
     tie.close
-    (tie.spec
-    Inv-loop
-    μ-loop
-    loop-holds
-    (λ c. search needs)
-    returns
-    (λ c. search needs)
-    (λ c. search needs)
-    loop-again
-    returns-2)
+    (tie.spec Inv-loop μ-loop (λ c. (omega arith, below-none _)) (λ c. search needs)
+    (λ c. let l = c .before .before .before .loop in sym (not-each _ _ (l .i) (omega arith) (ne-eqb _ _ (c .if1 .taken))))
+    (λ c. search needs) (λ c. search needs)
+    (λ c. (omega arith, below-more _ _ (c .before .before .before .loop .inv .1) (eq-eqb _ _ (c .if1 .left))))
+    (λ c. sym (each-at _ _ (λ k h. c .before .loop .inv .1 k (omega arith)))))

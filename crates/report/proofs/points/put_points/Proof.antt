@@ -5,14 +5,14 @@ use native.Mathlib.Omega.{arith}
 use lib.ListN.{length-set, length, drop}
 use borrow.Author.Needs.{needs}
 use Rattle.report.specs.Lines.{spacedPoints}
-use Rattle.report.proofs.Writes.{Begun, begun-start, stored-long}
+use Rattle.basis.proofs.Stores.{StoringFrom, storing-all}
 use Rattle.report.proofs.PointLaws.{stored-no-points, first-length, spaced-length, point-turn, points-end}
 use Rattle.report.proofs.points.put_points.Statement.{statement}
 use Rattle.report.proofs.points.put_points.Tie as tie
 
 abbrev Inv-loop : tie.InvT-loop
 Inv-loop points out₀ at next₀ i₀ out next i =
-    Begun out₀ next₀ (spacedPoints (drop 1 points)) out next (spacedPoints (drop i points))
+    StoringFrom next₀ out₀ (spacedPoints (drop 1 points)) out next (spacedPoints (drop i points))
     × (length out ≡ length out₀)
     × (next + length (spacedPoints (drop i points)) ≤ length out₀)
     × (i ≤ length points)
@@ -33,9 +33,9 @@ loop-holds c =
     let p = c .before .before in
     let b = p .before .before .before in
     let e = p .put-point .ensures in (
-      begun-start _ _ _,
+      storing-all _ _,
       refl,
-      omega (arith, first-length (b .before .before .before .args .points .now) (b .if1 .left), e .index, stored-long e),
+      omega (arith, first-length (b .before .before .before .args .points .now) (b .if1 .left), e .count, e .long),
       omega arith,
     )
 
@@ -63,13 +63,13 @@ loop-again c =
     let t = l .before .before .before .before .before .before .before .before .before .args .points .now in
     let e = p .put-point2 .ensures in (
       point-turn t (l .loop .i) h (l .loop .inv .0) e,
-      stored-long e ∙ rw length-set (l .loop .inv .1),
-      omega (arith, spaced-length t (l .loop .i) h, e .index),
+      e .long ∙ rw length-set (l .loop .inv .1),
+      omega (arith, spaced-length t (l .loop .i) h, e .count),
       omega arith,
     )
 
 same-length : tie.Need-same-length Inv-loop μ-loop
-same-length c = let l = c .before in l .loop .inv .1 ∙ stored-long (l .before .before .before .put-point .ensures)
+same-length c = let l = c .before in l .loop .inv .1 ∙ l .before .before .before .put-point .ensures .long
 
 returns-2 : tie.Need-returns-2 Inv-loop μ-loop
 returns-2 c =
@@ -80,20 +80,6 @@ returns-2 c =
 pub put-points-spec : {M : Type 1} → statement M
 put-points-spec =
     tie.close
-    (tie.spec
-    Inv-loop
-    μ-loop
-    returns
-    (λ c. search needs)
-    put-point-requires
-    loop-holds
-    slice-write-out
-    (λ c. search needs)
-    (λ c. search needs)
-    add-put-point
-    put-point-requires-2
-    (λ c. search needs)
-    (λ c. search needs)
-    loop-again
-    same-length
-    returns-2)
+    (tie.spec Inv-loop μ-loop returns (λ c. search needs) put-point-requires loop-holds
+    slice-write-out (λ c. search needs) (λ c. search needs) add-put-point put-point-requires-2
+    (λ c. search needs) (λ c. search needs) loop-again same-length returns-2)

@@ -12,12 +12,6 @@ returns-2 c = row-stored _ _ _ _ _ (c .before .args .row .now) (omega arith)
 pub store-spec : {M : Type 1} → statement M
 store-spec =
     tie.close
-    (tie.spec
-    (λ c. row-left _ _ (omega arith))
-    (λ c. search needs)
-    (λ c. simp length-set (omega arith))
-    (λ c. simp length-set (omega arith))
-    (λ c. simp length-set (omega arith))
-    (λ c. search needs)
-    (λ c. search needs)
-    returns-2)
+    (tie.spec (λ c. row-left _ _ (omega arith)) (λ c. search needs)
+    (λ c. simp length-set (omega arith)) (λ c. simp length-set (omega arith))
+    (λ c. simp length-set (omega arith)) (λ c. search needs) (λ c. search needs) returns-2)

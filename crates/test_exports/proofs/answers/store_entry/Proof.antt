@@ -9,13 +9,8 @@ pub store-entry-spec : {M : Type 1} → statement M
 unfolding entryOutcome entryNumbersOf
 store-entry-spec =
     tie.close
-    (tie.spec
-    (λ c. search needs)
-    (λ c κs. search needs)
-    (λ c κs. search needs)
-    (λ c. search needs)
-    (λ c κs. search needs)
-    (λ c. search needs)
+    (tie.spec (λ c. search needs) (λ c κs. search needs) (λ c κs. search needs) (λ c. search needs)
+    (λ c κs. search needs) (λ c. search needs)
     (λ c. let s = c .before .before in let n = s .before .before in rw (n .before .before .answer .given .1, ← n .number .ensures) (s .store .ensures))
     (λ c. search needs)
     (λ c. let s = c .before .before in rw (s .before .before .before .answer2 .given .1) (s .store-error .ensures)))

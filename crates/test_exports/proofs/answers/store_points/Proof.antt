@@ -9,11 +9,7 @@ pub store-points-spec : {M : Type 1} → statement M
 unfolding pointsOutcome numbersOf
 store-points-spec =
     tie.close
-    (tie.spec
-    (λ c. search needs)
-    (λ c κs. search needs)
-    (λ c. search needs)
-    (λ c κs. search needs)
+    (tie.spec (λ c. search needs) (λ c κs. search needs) (λ c. search needs) (λ c κs. search needs)
     (λ c. search needs)
     (λ c. let s = c .before .before in rw (s .before .before .before .answer .given .1) (s .store .ensures))
     (λ c. search needs)

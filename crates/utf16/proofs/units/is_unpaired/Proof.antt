@@ -6,23 +6,11 @@ use Rattle.utf16.proofs.Surrogates.{unpaired-high, unpaired-low, unpair
 use Rattle.utf16.proofs.units.is_unpaired.Statement.{statement}
 use Rattle.utf16.proofs.units.is_unpaired.Tie as tie
 
-returns : tie.Need-returns
-returns c = ap not (c .is-low .ensures) ∙ sym (unpaired-high _ _ _ (sym (c .before .before .is-high .ensures) ∙ c .before .if1 .taken))
-
-returns-2 : tie.Need-returns-2
-returns-2 c = ap not (c .is-high2 .ensures) ∙ sym (unpaired-low _ _ _ (sym (c .before .before .is-low2 .ensures) ∙ c .before .if2 .taken))
-
-returns-3 : tie.Need-returns-3
-returns-3 c = sym (unpaired-plain _ _ _ (sym (c .before .before .before .is-high .ensures) ∙ c .before .before .if1 .left) (sym (c .before .is-low2 .ensures) ∙ c .if2 .left))
-
 pub is-unpaired-spec : {M : Type 1} → statement M
 is-unpaired-spec =
     tie.close
-    (tie.spec
-    (λ c κs. search needs)
-    (λ c κs. search needs)
-    returns
-    (λ c κs. search needs)
-    (λ c κs. search needs)
-    returns-2
-    returns-3)
+    (tie.spec (λ c κs. search needs) (λ c κs. search needs)
+    (λ c. ap not (c .is-low .ensures) ∙ sym (unpaired-high _ _ _ (sym (c .before .before .is-high .ensures) ∙ c .before .if1 .taken)))
+    (λ c κs. search needs) (λ c κs. search needs)
+    (λ c. ap not (c .is-high2 .ensures) ∙ sym (unpaired-low _ _ _ (sym (c .before .before .is-low2 .ensures) ∙ c .before .if2 .taken)))
+    (λ c. sym (unpaired-plain _ _ _ (sym (c .before .before .before .is-high .ensures) ∙ c .before .before .if1 .left) (sym (c .before .is-low2 .ensures) ∙ c .if2 .left))))

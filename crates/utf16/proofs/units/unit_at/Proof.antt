@@ -5,8 +5,5 @@ use Rattle.basis.proofs.Lists.{at-past}
 use Rattle.utf16.proofs.units.unit_at.Statement.{statement}
 use Rattle.utf16.proofs.units.unit_at.Tie as tie
 
-returns-2 : tie.Need-returns-2
-returns-2 c = sym (at-past (c .before .args .units .now) _ (c .if1 .left))
-
 pub unit-at-spec : {M : Type 1} → statement M
-unit-at-spec = tie.close (tie.spec (λ c. search needs) (λ c. search needs) (λ c. search needs) returns-2)
+unit-at-spec = tie.close (tie.spec (λ c. search needs) (λ c. search needs) (λ c. search needs) (λ c. sym (at-past (c .before .args .units .now) _ (c .if1 .left))))

@@ -1,0 +1,4 @@
+-- Theorems on the name table's definitions.
+pub mod Settled
+pub mod Truncation
+pub mod Whole

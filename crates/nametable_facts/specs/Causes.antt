@@ -1,0 +1,63 @@
+-- The causes of refusal of a table and of one entry of it, each by itself, in order.
+use Prim.Native.Nat.{ℕ, zero, suc, _+_, _-_, _≤_, _<_}
+use mathlib.Core.Path.{_≡_}
+use mathlib.Core.Logic.{_⊎_}
+use mathlib.Core.List.{List, [], _∷_}
+use lib.ListN.{length, take, drop}
+use Rattle.basis.specs.Rows.{at}
+use Rattle.basis.specs.Causes.{Cause, whole, movedAll}
+use Rattle.scheme.specs.Naming as naming
+use Rattle.scheme.specs.Coding.{codecOf}
+use Rattle.scheme.specs.declared.Scheme.{Scheme}
+use Rattle.nametable.specs.Format.{headerKind, headerLength, mostEntries, entryLength, labelCapacity, textCapacity, labelStart, countOf, tableLength, entryAt, kindOf, readerOf, lengthOf, labelIn, schemeIn}
+
+-- the kind is no scheme's
+abbrev pub UnknownKind : List ℕ → Type 0
+UnknownKind e = (s : Scheme) → kindOf e ≡ naming.kindOf s → ⊥
+
+-- the number is not one of low to high
+abbrev pub Outside : (low high : ℕ) → ℕ → Type 0
+Outside low high n = (n < low) ⊎ (high < n)
+
+-- a byte of the label's room after it is not zero
+abbrev pub NotFilled : (room : ℕ) → List ℕ → Type 0
+NotFilled room e = (i : ℕ) × (i < room - lengthOf e) × (at e (labelStart + lengthOf e + i) ≡ 0 → ⊥)
+
+-- against one entry with room for so many bytes of label, whose reader number is to be at least the
+-- least: the kind, the reader number, the length, the filling, then the label's own, at 0
+abbrev pub entryCauses : (room least : ℕ) → List ℕ → List Cause
+entryCauses room least e =
+    whole 14 (UnknownKind e) ∷ whole 14 (readerOf e < least) ∷ whole 14 (Outside 1 room (lengthOf e)) ∷ whole 14 (NotFilled room e)
+    ∷ movedAll (λ _. 0) (codecOf (schemeIn e) .labelCauses (labelIn e)) []
+
+-- against the entries from an index on, so many, each at its index; the next reader number is to be
+-- one more at least
+unfoldable pub entriesCauses : (index least left : ℕ) → List ℕ → List Cause
+entriesCauses index least zero bytes = []
+entriesCauses index least (suc left) bytes =
+    movedAll (λ _. index) (entryCauses labelCapacity least (take entryLength bytes)) (entriesCauses (suc index) (suc (readerOf bytes)) left (drop entryLength bytes))
+
+-- against a header of this kind: empty; another first byte; under 3 bytes; a count that is not 1 to
+-- 500; then the later ones
+abbrev pub headerCauses : (kind : ℕ) → List ℕ → List Cause → List Cause
+headerCauses kind t later =
+    whole 13 (length t ≡ 0) ∷ whole 14 (at t 0 ≡ kind → ⊥) ∷ whole 13 (length t < headerLength) ∷ whole 14 (Outside 1 mostEntries (countOf t)) ∷ later
+
+-- against so many bytes where so many are needed: fewer; more; then the later ones
+abbrev pub lengthCauses : (bytes needed : ℕ) → List Cause → List Cause
+lengthCauses bytes needed later = whole 13 (bytes < needed) ∷ whole 14 (needed < bytes) ∷ later
+
+-- against reading a table: the header, the length that its count asks, then entry by entry
+abbrev pub tableCauses : List ℕ → List Cause
+tableCauses t = headerCauses headerKind t (lengthCauses (length t) (tableLength (countOf t)) (entriesCauses 0 0 (countOf t) (drop headerLength t)))
+
+-- against one entry by index: 1, the table's own, then an index not below the number of entries
+abbrev pub findCauses : List ℕ → (index capacity : ℕ) → List Cause
+findCauses t index capacity = whole 1 (capacity < textCapacity) ∷ movedAll (λ p. p) (tableCauses t) (whole 14 (countOf t ≤ index) ∷ [])
+
+-- against one entry by index of a table that was judged: 1, no whole header, an index not below the
+-- number of entries, an end before that of the entry, then the entry's own, at its index
+abbrev pub judgedEntryCauses : List ℕ → (index capacity : ℕ) → List Cause
+judgedEntryCauses t index capacity =
+    whole 1 (capacity < textCapacity) ∷ whole 13 (length t < headerLength) ∷ whole 14 (countOf t ≤ index) ∷ whole 13 (length t < tableLength (suc index))
+    ∷ movedAll (λ _. index) (entryCauses labelCapacity 0 (entryAt t index)) []

@@ -1,0 +1,2 @@
+-- The causes of refusal of the name table.
+pub mod Causes

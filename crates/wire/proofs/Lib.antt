@@ -1,4 +1,0 @@
--- Laws on texts as bytes.
-pub mod RoundTrip
-pub mod Stores
-pub mod Refusals
