@@ -80,7 +80,7 @@ int main(void)
             }
         }
     }
-    if (most[WRITE] > 856 || most[READ] > 488) {
+    if (most[WRITE] > 856 || most[READ] > 456) {
         fprintf(stderr, "stack: %zu bytes to write, %zu to read\n", most[WRITE], most[READ]);
         return 1;
     }

@@ -58,7 +58,7 @@ extern "C" {
  * buffer is never written to.
  *
  * The functions keep no state, and may be called from any thread at any time. They take no memory from a heap. The archive
- * has 6.5 KB of code and constants at most and needs one symbol, memset. A call needs 856 bytes of stack to write and 488 to read, and
+ * has 6.5 KB of code and constants at most and needs one symbol, memset. A call needs 856 bytes of stack to write and 456 to read, and
  * what memset needs: the most in measured calls, and not proved.
  *
  * The caller owes the following, and nothing is promised otherwise:

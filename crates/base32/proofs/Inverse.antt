@@ -21,11 +21,6 @@ pub value-same : (alphabet : List ℕ) (a b : ℕ) → small a ≡ small b → v
 unfolding valueOf
 value-same alphabet a b e = ap (λ (x : ℕ). firstIn (eqb x) alphabet) e
 
--- what the walk of the table for the small form answers
-pub place-value : (alphabet : List ℕ) (byte form place : ℕ) → form ≡ small byte → place ≡ firstIn (eqb form) alphabet → place ≡ valueOf alphabet byte
-unfolding valueOf
-place-value alphabet byte form place e q = q ∙ ap (λ (x : ℕ). firstIn (eqb x) alphabet) e
-
 -- a byte whose value is 32 has none
 pub no-character : (alphabet : List ℕ) (byte value : ℕ) → value ≡ valueOf alphabet byte → value ≡ 32 → not (isCharacter alphabet byte) ≡ true
 unfolding isCharacter

@@ -1,5 +1,6 @@
 -- The laws of alphabets, bits and Base32.
 pub mod Inverse
+pub mod Ranges
 pub mod Bits
 pub mod Regroup
 pub mod Form

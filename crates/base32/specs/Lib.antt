@@ -5,3 +5,4 @@ pub mod Form
 pub mod Base32
 pub mod Answer
 pub mod Causes
+pub mod Internal

@@ -1,41 +1,73 @@
-// The two alphabets as tables indexed by quintet, and the look-up of a character whatever its case.
-use ascii::small_form;
+// The two alphabets as tables indexed by quintet, and the value of a byte, whatever its case, by ranges.
+ghost use Prim.Native.Nat.{_+_, _≤_};
 ghost use mathlib.Core.Path.{_≡_};
-ghost use lib.Dec.{eqb};
-ghost use Rattle.basis.specs.Tests.{firstIn};
+ghost use mathlib.Core.List.{[], _∷_};
 ghost use Rattle.base32.specs.Alphabet.{altdude, lace, characterOf, valueOf};
 ghost use Rattle.base32.specs.Answer.{firstOutside};
+ghost use Rattle.base32.specs.Internal.{range, valueBy, altdudeLetters, laceLetters};
 
 const ALTDUDE: [u8; 32] = *b"abcdefghijkmnpqrstuvwxyz23456789";
 
 const LACE: [u8; 32] = *b"abcdefghijklmnopqrstuvwxyz234567";
 
-// The index of the first element that is the byte, or the length.
-fn place(alphabet: &[u8], byte: u8) -> usize
-    ensures { λ r. ⌜ r ≡ firstIn (eqb byte) (now (alphabet .entry)) ⌝ }
+// The value of a byte from first to last, counted up from the value of the first, and 32 for any other.
+fn in_range(byte: u8, first: u8, last: u8, value: u8) -> u8
+    requires { ⌜ value + last ≤ first + 255 ⌝ }
+    ensures { λ r. ⌜ r ≡ valueBy (range first last value ∷ []) byte ⌝ }
 {
-    let mut i = 0;
-    while i < alphabet.len() {
-        if byte == alphabet[i] {
-            return i;
-        }
-        i += 1;
+    if byte < first {
+        return 32;
     }
-    i
+    if last < byte {
+        return 32;
+    }
+    value + (byte - first)
+}
+
+// The value of a small letter in AltDUDE's alphabet, which leaves out l and o, and 32 for any other byte.
+fn altdude_letter(byte: u8) -> u8
+    ensures { λ r. ⌜ r ≡ valueBy altdudeLetters byte ⌝ }
+{
+    if b'o' < byte {
+        return in_range(byte, b'p', b'z', 13);
+    }
+    if b'l' < byte {
+        return in_range(byte, b'm', b'n', 11);
+    }
+    in_range(byte, b'a', b'k', 0)
 }
 
 // The value of a byte in AltDUDE's alphabet, 32 where it has none.
 pub fn altdude_value(byte: u8) -> u8
     ensures { λ r. ⌜ r ≡ valueOf altdude byte ⌝ }
 {
-    place(&ALTDUDE, small_form(byte)) as u8
+    if b'Z' < byte {
+        return altdude_letter(byte);
+    }
+    if byte < b'A' {
+        return in_range(byte, b'2', b'9', 24);
+    }
+    altdude_letter(byte + 32)
+}
+
+// The value of a small letter in LACE's alphabet, and 32 for any other byte.
+fn lace_letter(byte: u8) -> u8
+    ensures { λ r. ⌜ r ≡ valueBy laceLetters byte ⌝ }
+{
+    in_range(byte, b'a', b'z', 0)
 }
 
 // The value of a byte in LACE's alphabet, 32 where it has none.
 pub fn lace_value(byte: u8) -> u8
     ensures { λ r. ⌜ r ≡ valueOf lace byte ⌝ }
 {
-    place(&LACE, small_form(byte)) as u8
+    if b'Z' < byte {
+        return lace_letter(byte);
+    }
+    if byte < b'A' {
+        return in_range(byte, b'2', b'7', 26);
+    }
+    lace_letter(byte + 32)
 }
 
 // AltDUDE's character for a quintet, 0 for 32 or more.

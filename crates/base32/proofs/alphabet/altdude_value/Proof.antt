@@ -1,19 +1,36 @@
--- The walk of the table answers the value, which fits a byte.
+-- `alphabet::altdude_value` meets its contract: Z, then A, decide whether the byte, a digit or a capital's small form is looked for.
+use Prim.Native.Nat.{_+_}
+use mathlib.Core.Path.{_≡_, _∙_}
+use mathlib.Core.List.{[], _∷_}
 use native.Mathlib.Omega.{arith}
 use borrow.Author.Needs.{needs}
 use Rattle.base32.specs.Alphabet.{altdude}
-use Rattle.base32.proofs.Inverse.{place-value, value-le, altdude-alphabet}
+use Rattle.base32.specs.Internal.{range, valueBy, altdudeLetters}
+use Rattle.base32.proofs.Ranges.{letter-value, capital-value, digit-value, altdude-letters-from-a, altdude-agree}
 use Rattle.base32.proofs.alphabet.altdude_value.Statement.{statement}
 use Rattle.base32.proofs.alphabet.altdude_value.Tie as tie
 
 returns : tie.Need-returns
-unfolding altdude
-returns c = place-value altdude _ _ _ (c .before .small-form .ensures) (c .place .ensures)
+returns c =
+    let b = c .before .before .args .byte in
+    let letter : c .altdude-letter .result ≡ valueBy altdudeLetters b = c .altdude-letter .ensures in
+    letter ∙ letter-value 57 24 (omega arith) altdudeLetters altdude altdude-agree b (omega arith) (c .before .if1 .taken)
 
-cast-result : tie.Need-cast-result
-cast-result c = omega (arith, returns c, value-le altdude altdude-alphabet (c .before .before .before .args .byte))
+returns-2 : tie.Need-returns-2
+returns-2 c =
+    let b = c .before .before .before .args .byte in
+    let digit : c .in-range .result ≡ valueBy (range 50 57 24 ∷ []) b = c .in-range .ensures in
+    digit ∙ digit-value 57 24 (omega arith) altdudeLetters altdude altdude-agree b (omega arith) (c .before .if2 .taken) (altdude-letters-from-a b (omega arith))
+
+returns-3 : tie.Need-returns-3
+returns-3 c =
+    let b = c .before .before .before .args .byte in
+    let capital : c .altdude-letter2 .result ≡ valueBy altdudeLetters (b + 32) = c .altdude-letter2 .ensures in
+    capital ∙ capital-value 57 24 (omega arith) altdudeLetters altdude altdude-agree b (omega arith) (omega arith) (omega arith)
 
 pub altdude-value-spec : {M : Type 1} → statement M
 altdude-value-spec =
     tie.close
-    (tie.spec (λ c. search needs) (λ c κs. search needs) (λ c κs. search needs) cast-result returns)
+    (tie.spec
+    (λ c κs. search needs) returns (λ c κs. search needs) returns-2
+    (λ c. search needs) (λ c κs. search needs) returns-3)

@@ -1,19 +1,36 @@
--- The walk of the table answers the value, which fits a byte.
+-- `alphabet::lace_value` meets its contract: Z, then A, decide whether the byte, a digit or a capital's small form is looked for.
+use Prim.Native.Nat.{_+_}
+use mathlib.Core.Path.{_≡_, _∙_}
+use mathlib.Core.List.{[], _∷_}
 use native.Mathlib.Omega.{arith}
 use borrow.Author.Needs.{needs}
 use Rattle.base32.specs.Alphabet.{lace}
-use Rattle.base32.proofs.Inverse.{place-value, value-le, lace-alphabet}
+use Rattle.base32.specs.Internal.{range, valueBy, laceLetters}
+use Rattle.base32.proofs.Ranges.{letter-value, capital-value, digit-value, lace-letters-from-a, lace-agree}
 use Rattle.base32.proofs.alphabet.lace_value.Statement.{statement}
 use Rattle.base32.proofs.alphabet.lace_value.Tie as tie
 
 returns : tie.Need-returns
-unfolding lace
-returns c = place-value lace _ _ _ (c .before .small-form .ensures) (c .place .ensures)
+returns c =
+    let b = c .before .before .args .byte in
+    let letter : c .lace-letter .result ≡ valueBy laceLetters b = c .lace-letter .ensures in
+    letter ∙ letter-value 55 26 (omega arith) laceLetters lace lace-agree b (omega arith) (c .before .if1 .taken)
 
-cast-result : tie.Need-cast-result
-cast-result c = omega (arith, returns c, value-le lace lace-alphabet (c .before .before .before .args .byte))
+returns-2 : tie.Need-returns-2
+returns-2 c =
+    let b = c .before .before .before .args .byte in
+    let digit : c .in-range .result ≡ valueBy (range 50 55 26 ∷ []) b = c .in-range .ensures in
+    digit ∙ digit-value 55 26 (omega arith) laceLetters lace lace-agree b (omega arith) (c .before .if2 .taken) (lace-letters-from-a b (omega arith))
+
+returns-3 : tie.Need-returns-3
+returns-3 c =
+    let b = c .before .before .before .args .byte in
+    let capital : c .lace-letter2 .result ≡ valueBy laceLetters (b + 32) = c .lace-letter2 .ensures in
+    capital ∙ capital-value 55 26 (omega arith) laceLetters lace lace-agree b (omega arith) (omega arith) (omega arith)
 
 pub lace-value-spec : {M : Type 1} → statement M
 lace-value-spec =
     tie.close
-    (tie.spec (λ c. search needs) (λ c κs. search needs) (λ c κs. search needs) cast-result returns)
+    (tie.spec
+    (λ c κs. search needs) returns (λ c κs. search needs) returns-2
+    (λ c. search needs) (λ c κs. search needs) returns-3)
