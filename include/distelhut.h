@@ -10,7 +10,7 @@ extern "C" {
 #endif
 
 /* Scheme numbers. Any other number is refused. */
-#define DISTELHUT_SCHEME_DEFAULT 0u /* the house default, LACE */
+#define DISTELHUT_SCHEME_DEFAULT 0u /* the house default, AltDUDE */
 #define DISTELHUT_SCHEME_ALTDUDE 1u
 #define DISTELHUT_SCHEME_LACE 2u
 

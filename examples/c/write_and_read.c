@@ -67,9 +67,9 @@ int main(void)
     write_label(DISTELHUT_SCHEME_LACE, u_umlaut, 2);
     read_label(DISTELHUT_SCHEME_LACE, "lq--74apy");
     write_label(DISTELHUT_SCHEME_DEFAULT, u_umlaut, 2);
-    read_label(DISTELHUT_SCHEME_DEFAULT, "LQ--74APY"); /* capitals are read as small letters */
-    read_label(DISTELHUT_SCHEME_DEFAULT, "lq--74ap");  /* the last byte was lost */
-    write_label(3, u_umlaut, 2);                       /* no such scheme */
-    write_label(DISTELHUT_SCHEME_LACE, u_umlaut, 1);   /* half a unit */
+    read_label(DISTELHUT_SCHEME_DEFAULT, "3N");      /* capitals are read as small letters */
+    read_label(DISTELHUT_SCHEME_LACE, "lq--74ap");   /* the last byte was lost */
+    write_label(3, u_umlaut, 2);                     /* no such scheme */
+    write_label(DISTELHUT_SCHEME_LACE, u_umlaut, 1); /* half a unit */
     return 0;
 }

@@ -11,7 +11,7 @@ pub enum Scheme {
 }
 
 /// The default scheme, number 0.
-pub const DEFAULT: Scheme = Scheme::Lace;
+pub const DEFAULT: Scheme = Scheme::AltDude;
 
 impl Scheme {
     /// The scheme that the firmware's number names.

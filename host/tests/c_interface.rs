@@ -40,8 +40,8 @@ fn bytes_of(text: &[u32]) -> Vec<u8> {
 /// The numbers that name a scheme.
 fn numbers(scheme: Scheme) -> &'static [usize] {
     match scheme {
-        Scheme::AltDude => &[1],
-        Scheme::Lace => &[0, 2],
+        Scheme::AltDude => &[0, 1],
+        Scheme::Lace => &[2],
     }
 }
 
@@ -85,7 +85,7 @@ fn slips() {
 fn order_when_writing() {
     let a = |times: usize| [0x00, 0x61].repeat(times);
     let surrogates = |times: usize| [0xD8, 0x00].repeat(times);
-    let cases: [(usize, &[u8], usize, u64); 22] = [
+    let cases: [(usize, &[u8], usize, u64); 25] = [
         (9, &[0xD8; 255], 0, 11),
         (3, &[0x00, 0xFC], 63, 11),
         (u32::MAX as usize, &[], 62, 11),
@@ -104,10 +104,13 @@ fn order_when_writing() {
         (1, &[0x00, 0x2D].repeat(126), 63, 5),
         (1, &[0x00, 0x2D], 63, 5),
         (2, &a(126), 63, 6),
-        (0, &[0x00, 0x2D], 63, 6),
+        (0, &[0x00, 0x2D], 63, 5),
+        (2, &[0x00, 0x2D], 63, 6),
+        (0, &a(126), 63, 3),
         (1, &a(126), 63, 3),
         (1, &a(64), 63, 3),
         (0, &[0x04, 0x31].repeat(126), 63, 3),
+        (2, &[0x04, 0x31].repeat(126), 63, 3),
     ];
     for one in implementations() {
         for (scheme, text, capacity, code) in cases {
@@ -146,6 +149,20 @@ fn order_when_reading() {
             let answer = read(&one, scheme, label, capacity);
             assert_eq!(answer, Err((code, 0)), "scheme {scheme}, {label:X?}");
         }
+    }
+}
+
+#[test]
+fn the_default_is_altdude() {
+    for one in implementations() {
+        let label = |text: &[u32]| written(&one, 0, &bytes_of(text), 63);
+        assert_eq!(label(&[0x61, 0x62, 0x63]), Ok(b"bdb".to_vec()));
+        assert_eq!(label(&[0xFC]), Ok(b"3n".to_vec()));
+        assert_eq!(read(&one, 0, b"3n", 252), Ok(vec![0x00, 0xFC]));
+        assert_eq!(read(&one, 0, b"lq--74apy", 252), Err((7, 0)));
+        assert_eq!(label(&[0x2D, 0x61, 0x62]), Err((5, 0)));
+        assert_eq!(label(&[0x61; 63]), Ok(format!("b{}", "a".repeat(62)).into_bytes()));
+        assert_eq!(label(&[0x61; 126]), Err((3, 0)));
     }
 }
 

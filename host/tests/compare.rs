@@ -270,11 +270,11 @@ fn errors_of_table_entry() {
                 },
                 ..INDEPENDENT
             },
-            // LACE is told as the default, 0
+            // AltDUDE is told as the default, 0
             Implementation {
                 table_entry: |table, index, text, answer| {
                     (INDEPENDENT.table_entry)(table, index, text, answer);
-                    if answer.len() >= 5 && answer[4] == 2 {
+                    if answer.len() >= 5 && answer[4] == 1 {
                         answer[4] = 0;
                     }
                 },
@@ -334,10 +334,11 @@ fn errors_of_write() {
                 },
                 ..INDEPENDENT
             },
-            // the default is AltDUDE
+            // the default is LACE
             Implementation {
                 write: |text, scheme, label, answer| {
-                    (INDEPENDENT.write)(text, scheme.max(1), label, answer);
+                    let scheme = if scheme == 0 { 2 } else { scheme };
+                    (INDEPENDENT.write)(text, scheme, label, answer);
                 },
                 ..INDEPENDENT
             },

@@ -11,7 +11,7 @@ use Rattle.utf16.specs.Answer.{bytesToPointsOutcome}
 use Rattle.utf16.proofs.RoundTrip.{length-bytesOf, pointsOf-bytesOf}
 use Rattle.utf16.proofs.Refusals.{text-bytes-done}
 use Rattle.scheme.specs.Coding.{decodeOutcome, textOf}
-use Rattle.scheme.specs.Naming.{rowOf, schemes, numberOf, firstWith, defaultNumber, ownNumberNames, numberNames, isKnown, schemeNamed}
+use Rattle.scheme.specs.Naming.{rowOf, schemes, numberOf, firstWith, ownNumberNames, numberNames, isKnown, schemeNamed}
 use Rattle.scheme.specs.declared.Scheme.the-variants.{Lace}
 use Rattle.scheme.specs.declared.Named.the-variants.{Known}
 use Rattle.scheme.proofs.Coding.{decoded-text, decoded-short}
@@ -21,7 +21,7 @@ use Rattle.bench_list.specs.Listing.{lineFor, schemeNumber, benchLine}
 
 -- the scheme that is asked for is LACE
 asks-lace : numberNames schemeNumber ≡ Known Lace
-unfolding numberNames ownNumberNames defaultNumber firstWith schemes numberOf rowOf
+unfolding numberNames ownNumberNames firstWith schemes numberOf rowOf
 asks-lace = refl
 
 module _ (label : List ℕ) where

@@ -14,9 +14,9 @@ unfoldable pub lineFor : Outcome → List ℕ → List ℕ
 lineFor (done count) text = pointsLine text
 lineFor (refused number position) text = refusedLine number
 
--- the number of the scheme that the C interface is asked for
+-- the number of the scheme that the C interface is asked for: LACE
 abbrev pub schemeNumber : ℕ
-schemeNumber = 0
+schemeNumber = 2
 
 -- what is printed for a line: what the C interface reads it as, with room for any text
 unfoldable pub benchLine : List ℕ → List ℕ

@@ -18,8 +18,8 @@ ghost use Rattle.lines.specs.Run.{lastLine};
 ghost use Rattle.streams.specs.Reading.{believed};
 ghost use Rattle.bench_list.specs.Listing.{benchLine, benchLines};
 
-// The number of the scheme that the interface is asked for: the house default, which is LACE.
-const SCHEME: u32 = 0;
+// The number of the scheme that the interface is asked for: LACE.
+const SCHEME: u32 = 2;
 
 // Writes the line of the points of a text of bytes that may be converted.
 fn text_line(text: &[u8], out: &mut [u8]) -> BytesAnswer

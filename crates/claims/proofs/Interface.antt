@@ -20,12 +20,13 @@ use Rattle.utf16.specs.Causes.{UnpairedAt}
 use Rattle.utf16.proofs.RoundTrip.{some-toUnits, length-bytesOf, length-bytesOf-units, paired-bytesOf, pointsOf-bytesOf, bytesOf-pointsOf}
 use Rattle.scheme.specs.Naming.{numberNames, schemeNamed}
 use Rattle.scheme.specs.Coding.{codecOf, labelOf, textOf}
+use Rattle.scheme.proofs.Naming.{zero-is-one}
 use Rattle.scheme.proofs.Coding.{faithful, label-case, label-some, writable-text, decoded-short}
 use Rattle.scheme.specs.declared.Scheme.{Scheme}
 use Rattle.firmware.specs.Answer.{writeOutcome, writtenLabel, readOutcome, readText}
 use Rattle.firmware.specs.Causes.{bytesCauses}
 use Rattle.firmware.proofs.Settled.{write-settled, read-settled}
-use Rattle.claims.specs.Demands.{WritesBytes, ReadsBytes, MayWrite, Demand2AtInterface}
+use Rattle.claims.specs.Demands.{WritesBytes, ReadsBytes, MayWrite, MeanTheSame, Demand2AtInterface}
 use Rattle.claims.proofs.CodecDemands.{settled-leaves}
 
 -- a text may be written under a scheme exactly if its bytes may
@@ -103,10 +104,20 @@ read-some number capacity l n e =
     let t = textOf s l in
     omega (arith, q .1, length-bytesOf-units t, some-toUnits t, writable-text s t (faithful s .writable l (q .0 .1 .1)) .some)
 
+zero-means-one : MeanTheSame 0 1
+unfolding writeOutcome writtenLabel readOutcome readText
+zero-means-one = record {
+  writing = λ capacity bytes. rw zero-is-one;
+  label = λ bytes. rw zero-is-one;
+  reading = λ capacity l. rw zero-is-one;
+  text = λ l. rw zero-is-one;
+}
+
 pub at-interface : Demand2AtInterface
 at-interface = record {
   encoding = write-settled;
   decoding = read-settled;
   writing = λ number buffer bytes l h. writes-label number buffer bytes l (omega (arith, h));
   reading = λ number buffer l bytes h. reads-back number buffer l bytes (omega (arith, h));
+  houseDefault = zero-means-one;
 }

@@ -75,13 +75,21 @@ ReadsBytes number buffer l bytes = Leaves (readOutcome number (length buffer) l)
 abbrev pub MayWrite : ℕ → List ℕ → Type 0
 MayWrite number bytes = NoCause (whole 11 (UnknownNumber number) ∷ bytesCauses (schemeNamed (numberNames number)) bytes)
 
--- demand 2 at the C interface, for the same sentences
+-- two numbers mean the same at the C interface: the same answers, labels and texts
+pub record MeanTheSame (a b : ℕ) : Type 0 where
+  pub writing : (capacity : ℕ) (bytes : List ℕ) → writeOutcome a capacity bytes ≡ writeOutcome b capacity bytes
+  pub label : (bytes : List ℕ) → writtenLabel a bytes ≡ writtenLabel b bytes
+  pub reading : (capacity : ℕ) (l : List ℕ) → readOutcome a capacity l ≡ readOutcome b capacity l
+  pub text : (l : List ℕ) → readText a l ≡ readText b l
+
+-- demand 2 at the C interface, for the same sentences; and what the house default means
 pub record Demand2AtInterface : Type 0 where
   pub encoding : (number capacity : ℕ) (bytes : List ℕ) → Settles (writeCauses number capacity bytes) (length (writtenLabel number bytes)) (writeOutcome number capacity bytes)
   pub decoding : (number capacity : ℕ) (l : List ℕ) → Settles (readCauses number capacity l) (length (readText number l)) (readOutcome number capacity l)
   pub writing : (number : ℕ) (buffer bytes l : List ℕ) → 63 ≤ length buffer → WritesBytes number buffer bytes l ↔ (MayWrite number bytes × (l ≡ writtenLabel number bytes))
   pub reading : (number : ℕ) (buffer l bytes : List ℕ) → 252 ≤ length buffer → AllBelow 256 bytes
       → ReadsBytes number buffer l bytes ↔ (MayWrite number bytes × SameButCase (writtenLabel number bytes) l)
+  pub houseDefault : MeanTheSame 0 1
 
 -- demand 2 of AltDUDE and LACE, and carried to the C interface
 pub record Demand2 : Type 0 where

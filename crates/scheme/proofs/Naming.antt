@@ -83,3 +83,8 @@ names-none-iff valueOf value =
 pub zero-known : isKnown (numberNames 0) ≡ true
 unfolding isKnown numberNames ownNumberNames defaultNumber firstWith schemes numberOf rowOf
 zero-known = refl
+
+-- the one that 1 names
+pub zero-is-one : numberNames 0 ≡ numberNames 1
+unfolding numberNames ownNumberNames defaultNumber firstWith schemes numberOf rowOf
+zero-is-one = refl

@@ -41,9 +41,9 @@ unfoldable pub firstWith : (Scheme → ℕ) → ℕ → List Scheme → Named
 firstWith valueOf value [] = Unknown
 firstWith valueOf value (s ∷ rest) = pick (eqb value (valueOf s)) (Known s) (firstWith valueOf value rest)
 
--- the number that 0 stands for, the house default: LACE
+-- the number that 0 stands for, the house default: AltDUDE
 unfoldable pub defaultNumber : ℕ
-defaultNumber = 2
+defaultNumber = 1
 
 -- the scheme that a number names, 0 aside
 unfoldable pub ownNumberNames : ℕ → Named

@@ -41,7 +41,7 @@ pub fn letter(scheme: Scheme) -> u8
 }
 
 // The number that 0 stands for: the house default.
-const DEFAULT: u32 = 2;
+const DEFAULT: u32 = 1;
 
 // The scheme that a number other than 0 names.
 fn of_own_number(number: u32) -> Named

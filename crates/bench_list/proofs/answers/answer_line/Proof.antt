@@ -1,5 +1,7 @@
 -- `answers::answer_line` meets its contract: an answer below 1000 is of a text, any other a refusal.
+use mathlib.Core.Path.{_≡_}
 use native.Mathlib.Omega.{arith}
+use Rattle.firmware.specs.Answer.{answerOf, readOutcome}
 use Rattle.report.proofs.LineLaws.{line-written}
 use Rattle.bench_list.specs.Listing.{benchLine}
 use Rattle.bench_list.proofs.Widths.{line-fits}
@@ -11,7 +13,9 @@ use Rattle.bench_list.proofs.answers.answer_line.Tie as tie
 array-share-prefix-text : tie.Need-array-share-prefix-text
 array-share-prefix-text c =
     let d = c .before .before .distelhut-read in
-    read-below _ _ _ _ (d .ensures .0) (d .ensures .1) (c .if1 .taken) .inside
+    let l = c .before .before .before .before .before .before .args .label .now in
+    let answer : d .result ≡ answerOf (readOutcome 2 252 l) = d .ensures .0 in
+    read-below _ _ _ _ answer (d .ensures .1) (c .if1 .taken) .inside
 
 slice-aggregate-text-line : tie.Need-slice-aggregate-text-line
 slice-aggregate-text-line c =
