@@ -27,7 +27,7 @@ extern "C" {
 #define DISTELHUT_ERR_EMPTY 1002u              /* the text or the label is empty */
 #define DISTELHUT_ERR_TOO_LONG 1003u           /* the label is over 63 bytes, given or needed, or the text is over 252 bytes */
 #define DISTELHUT_ERR_EDGE_HYPHEN 1005u        /* an AltDUDE text or label begins or ends with a hyphen */
-#define DISTELHUT_ERR_ALL_LDH 1006u            /* a LACE text has only letters a to z and A to Z, digits and hyphens */
+#define DISTELHUT_ERR_HOST_LABEL 1006u         /* a LACE text is a host label itself, and needs no other */
 #define DISTELHUT_ERR_OUTSIDE_ALPHABET 1007u   /* a byte of the label is none of the scheme's characters */
 #define DISTELHUT_ERR_NO_PREFIX 1008u          /* a LACE label does not begin with lq-- */
 #define DISTELHUT_ERR_NOT_WELL_FORMED 1009u    /* the scheme's rules of form do not admit the label */
@@ -44,22 +44,23 @@ extern "C" {
  *     uint32_t answer = distelhut_write(DISTELHUT_SCHEME_LACE, text, sizeof text, label, sizeof label);
  *     if (answer < DISTELHUT_ERR_BASE) {
  *         use(label, answer);                     // 9 bytes: lq--74apy
- *     } else if (answer == DISTELHUT_ERR_ALL_LDH) {
- *         use_as_it_is(text, sizeof text);        // letters, digits and hyphens only: LACE has no label for it
+ *     } else if (answer == DISTELHUT_ERR_HOST_LABEL) {
+ *         use_as_it_is(text, sizeof text);        // a host label itself: LACE has no label for it
  *     } else {
  *         report(answer - DISTELHUT_ERR_BASE);    // the refusal's number, as the listing prints it
  *     }
  *
  * A text is UTF-16 in bytes, the high byte of each unit first: U+00FC is 00 FC. There is no mark of byte order and no
  * final zero. A label is bytes of ASCII without a final zero; written labels use small letters, and reading ignores case.
+ * A text is a host label itself if it is 1 to 63 letters a to z and A to Z, digits and hyphens, with no hyphen at either end.
  *
  * Both functions answer the number of bytes that they wrote to the beginning of the last buffer, which is 1 or more; its
  * bytes from that number on hold what they held. If the answer is 1000 or more, nothing was written at all. The first
  * buffer is never written to.
  *
  * The functions keep no state, and may be called from any thread at any time. They take no memory from a heap. The archive
- * has 6.5 KB of code and constants at most and needs one symbol, memset. A call needs 856 bytes of stack to write and 456 to read, and
- * what memset needs: the most in measured calls, and not proved.
+ * has 6.75 KB of code and constants at most and needs one symbol, memset. A call needs 856 bytes of stack to write and 456
+ * to read, and what memset needs: the most in measured calls, and not proved.
  *
  * The caller owes the following, and nothing is promised otherwise:
  *   - both pointers are valid for as many bytes as their lengths say: the first to read, the second to read and write;

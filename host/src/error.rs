@@ -13,8 +13,8 @@ pub enum ErrorCode {
     NotAPoint = 4,
     /// An AltDUDE text or label begins or ends with a hyphen.
     EdgeHyphen = 5,
-    /// A LACE text is all LDH.
-    AllLdh = 6,
+    /// A LACE text is a host label itself.
+    HostLabel = 6,
     /// A byte is outside the scheme's characters.
     OutsideAlphabet = 7,
     /// The LACE prefix is missing.

@@ -1,7 +1,7 @@
 //! LACE (source document 004): units, runs, octets, Base32.
 
 use crate::error::{error, error_at, Error, ErrorCode};
-use crate::point::{first_not_point, fold, is_ldh, value_in, LABEL_MAX};
+use crate::point::{first_not_point, fold, is_host_label, value_in, LABEL_MAX};
 use crate::utf16::{points_of, units_of};
 
 /// The Base32 characters for 0 to 31.
@@ -24,8 +24,8 @@ pub fn encode(text: &[u32], out: &mut [u8]) -> Result<usize, Error> {
     if let Some(position) = first_not_point(text) {
         return error_at(ErrorCode::NotAPoint, position);
     }
-    if text.iter().all(|&point| is_ldh(point)) {
-        return error(ErrorCode::AllLdh);
+    if is_host_label(text) {
+        return error(ErrorCode::HostLabel);
     }
     let units = match units_of(text) {
         Ok(units) => units,
@@ -64,8 +64,8 @@ pub fn decode(label: &[u8], out: &mut [u32]) -> Result<usize, Error> {
         Some(text) => text,
         None => return error(ErrorCode::NotWellFormed),
     };
-    if text.iter().all(|&point| is_ldh(point)) {
-        return error(ErrorCode::AllLdh);
+    if is_host_label(&text) {
+        return error(ErrorCode::HostLabel);
     }
     out[..text.len()].copy_from_slice(&text);
     Ok(text.len())
@@ -151,7 +151,7 @@ fn quintets_of(bytes: &[u8]) -> Result<Vec<u8>, usize> {
 }
 
 /// The text of Base32 values, if the rules of form admit them.
-/// The rule against texts that are all LDH is left to the caller.
+/// The rule against host labels is left to the caller.
 fn text_from(quintets: &[u8]) -> Option<Vec<u32>> {
     let octets = octets_from(quintets)?;
     let units = units_from(&octets)?;

@@ -1,4 +1,5 @@
-//! The papers' own examples, as data. Nothing here is computed by the schemes.
+//! The papers' own examples, as data, and our own for 02's rule of host labels
+//! (`host_labels`). Nothing here is computed by the schemes.
 
 use crate::nametable::{ENTRY_LENGTH, HEADER_KIND};
 use crate::scheme::Scheme;
@@ -31,9 +32,10 @@ fn error(scheme: Scheme, text: &[u32], code: u64) -> Known {
     Known { scheme, text: text.to_vec(), says: Says::Error(code) }
 }
 
-/// All that the papers say of encoding a text.
+/// All that the papers say of encoding a text, and our own for host labels.
 pub fn known() -> Vec<Known> {
-    [known_rows(), edges(), known_003(), known_004()].into_iter().flatten().collect()
+    let rows = [known_rows(), edges(), host_labels(), known_003(), known_004()];
+    rows.into_iter().flatten().collect()
 }
 
 /// The cells of the scope paper's table "Known spellings", row by row.
@@ -71,6 +73,28 @@ pub fn edges() -> Vec<Known> {
         error(Lace, &[0x431; 35], 3),
         length(Lace, &ever_changing(17), 60),
         error(Lace, &ever_changing(18), 3),
+    ]
+}
+
+/// LACE keeps back host labels only (02): texts on both sides of that rule.
+pub fn host_labels() -> Vec<Known> {
+    use Scheme::{AltDude, Lace};
+    let points = |text: &str| -> Vec<u32> { text.chars().map(u32::from).collect() };
+    let hyphen_and_a = |times: usize| points(&format!("-{}", "a".repeat(times)));
+    vec![
+        label(Lace, &points("-ab"), "lq--amac2ylc"),
+        label(Lace, &points("ab-"), "lq--amagcyrn"),
+        label(Lace, &points("-"), "lq--74ac2"),
+        label(Lace, &points("--"), "lq--aiac2li"),
+        label(Lace, &points("-AB"), "lq--amac2qkc"),
+        length(Lace, &hyphen_and_a(33), 62),
+        error(Lace, &hyphen_and_a(34), 3),
+        error(Lace, &points("a-b"), 6),
+        error(Lace, &points("Z9-0z"), 6),
+        error(Lace, &[0x61; 63], 6),
+        error(Lace, &[0x61; 64], 3),
+        error(Lace, &[0x61; 300], 3),
+        error(AltDude, &points("-ab"), 5),
     ]
 }
 

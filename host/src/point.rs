@@ -1,4 +1,4 @@
-//! Points, LDH, and the folding of case.
+//! Points, LDH, host labels, and the folding of case.
 
 /// The most bytes in a label, and the capacity that a label or points buffer needs.
 pub const LABEL_MAX: usize = 63;
@@ -27,6 +27,15 @@ pub fn is_ldh(number: u32) -> bool {
     let capital = (0x41..=0x5A).contains(&number);
     let small = (0x61..=0x7A).contains(&number);
     number == HYPHEN || digit || capital || small
+}
+
+/// Whether numbers are a host label: all LDH, 1 to 63 long, no hyphen at either end.
+pub fn is_host_label(numbers: &[u32]) -> bool {
+    let (Some(&first), Some(&last)) = (numbers.first(), numbers.last()) else {
+        return false;
+    };
+    let short = numbers.len() <= LABEL_MAX;
+    short && first != HYPHEN && last != HYPHEN && numbers.iter().all(|&number| is_ldh(number))
 }
 
 /// The small form of A to Z; any other byte stays as it is.

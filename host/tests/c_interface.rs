@@ -85,7 +85,7 @@ fn slips() {
 fn order_when_writing() {
     let a = |times: usize| [0x00, 0x61].repeat(times);
     let surrogates = |times: usize| [0xD8, 0x00].repeat(times);
-    let cases: [(usize, &[u8], usize, u64); 25] = [
+    let cases: [(usize, &[u8], usize, u64); 26] = [
         (9, &[0xD8; 255], 0, 11),
         (3, &[0x00, 0xFC], 63, 11),
         (u32::MAX as usize, &[], 62, 11),
@@ -103,9 +103,10 @@ fn order_when_writing() {
         (1, &[0xDC, 0x00, 0xD8, 0x00], 63, 10),
         (1, &[0x00, 0x2D].repeat(126), 63, 5),
         (1, &[0x00, 0x2D], 63, 5),
-        (2, &a(126), 63, 6),
         (0, &[0x00, 0x2D], 63, 5),
-        (2, &[0x00, 0x2D], 63, 6),
+        (2, &a(63), 63, 6),
+        (2, &[0x00, 0x61], 63, 6),
+        (2, &a(126), 63, 3),
         (0, &a(126), 63, 3),
         (1, &a(126), 63, 3),
         (1, &a(64), 63, 3),

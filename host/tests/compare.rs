@@ -3,6 +3,7 @@
 
 use distelhut_host::compare::COMPARISONS;
 use distelhut_host::functions::{Function, Implementation, INDEPENDENT};
+use distelhut_host::point::is_ldh;
 
 const CASES: usize = 20_000;
 
@@ -174,6 +175,23 @@ fn errors_of_lace_encode() {
                 },
                 ..INDEPENDENT
             },
+            // every text of LDH is kept back
+            Implementation {
+                lace_encode: |text, _, label, answer| {
+                    let ldh = text.iter().all(|&point| is_ldh(point));
+                    let text = if ldh && !text.is_empty() { &[0x61] } else { text };
+                    (INDEPENDENT.lace_encode)(text, 0, label, answer);
+                },
+                ..INDEPENDENT
+            },
+            // 64 points are taken for a host label
+            Implementation {
+                lace_encode: |text, _, label, answer| {
+                    let text = if text.len() == 64 { &text[..63] } else { text };
+                    (INDEPENDENT.lace_encode)(text, 0, label, answer);
+                },
+                ..INDEPENDENT
+            },
             // the count is not stored
             Implementation {
                 lace_encode: |text, _, label, answer| {
@@ -200,6 +218,17 @@ fn errors_of_lace_decode() {
                     let five = numbers(INDEPENDENT.lace_decode, label, 0, text, answer);
                     if five[0] == 7 && answer.len() >= 5 {
                         answer[1] -= 4;
+                    }
+                },
+                ..INDEPENDENT
+            },
+            // 6 is reported of LDH with a hyphen at an edge
+            Implementation {
+                lace_decode: |label, _, text, answer| {
+                    let five = numbers(INDEPENDENT.lace_decode, label, 0, text, answer);
+                    let ldh = text.iter().take(five[2] as usize).all(|&point| is_ldh(point));
+                    if five[0] == 0 && ldh && answer.len() >= 5 {
+                        answer[0] = 6;
                     }
                 },
                 ..INDEPENDENT

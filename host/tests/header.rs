@@ -35,7 +35,7 @@ fn constants_are_the_papers() {
         ("ERR_EMPTY", answer(ErrorCode::Empty)),
         ("ERR_TOO_LONG", answer(ErrorCode::TooLong)),
         ("ERR_EDGE_HYPHEN", answer(ErrorCode::EdgeHyphen)),
-        ("ERR_ALL_LDH", answer(ErrorCode::AllLdh)),
+        ("ERR_HOST_LABEL", answer(ErrorCode::HostLabel)),
         ("ERR_OUTSIDE_ALPHABET", answer(ErrorCode::OutsideAlphabet)),
         ("ERR_NO_PREFIX", answer(ErrorCode::NoPrefix)),
         ("ERR_NOT_WELL_FORMED", answer(ErrorCode::NotWellFormed)),

@@ -1,5 +1,5 @@
-//! What the papers say of labels: rows, edges, slips and examples, and the order
-//! of the errors. On each implementation at hand.
+//! What the papers say of labels: rows, edges, slips and examples, host labels,
+//! and the order of the errors. On each implementation at hand.
 
 mod shared;
 
@@ -46,7 +46,7 @@ fn eleven_starred_cells() {
     let rows = known_rows();
     let labels = rows.iter().filter(|known| matches!(known.says, Says::Label(_)));
     assert_eq!((rows.len(), labels.count()), (13, 11));
-    assert_eq!(known().len(), 13 + 8 + 19 + 3);
+    assert_eq!(known().len(), 13 + 8 + 13 + 19 + 3);
 }
 
 #[test]
@@ -67,15 +67,15 @@ fn slips() {
 // 4 at the last of 100 numbers comes before 3, and so do 5 and 6.
 #[test]
 fn whole_text_is_judged_before_its_length() {
-    let mut late = vec![0x61; 99];
-    late.push(0xD800);
+    let late = |before: usize, number: u32| [vec![0x61; before], vec![number]].concat();
     for one in implementations() {
         for scheme in BOTH {
-            assert_eq!(encoded(&one, scheme, &late), Err((4, 99)));
+            assert_eq!(encoded(&one, scheme, &late(99, 0xD800)), Err((4, 99)));
             assert_eq!(encoded(&one, scheme, &[0x2D, 0xD800]), Err((4, 1)));
+            assert_eq!(encoded(&one, scheme, &late(64, 0x110000)), Err((4, 64)));
         }
         assert_eq!(encoded(&one, Scheme::AltDude, &[0x2D; 64]), Err((5, 0)));
-        assert_eq!(encoded(&one, Scheme::Lace, &[0x61; 300]), Err((6, 0)));
+        assert_eq!(encoded(&one, Scheme::Lace, &[0x61; 63]), Err((6, 0)));
     }
 }
 
@@ -141,7 +141,7 @@ fn order_of_decoding_altdude() {
 
 #[test]
 fn order_of_decoding_lace() {
-    let cases: [(&[u8], u64, u64); 12] = [
+    let cases: [(&[u8], u64, u64); 16] = [
         (b"", 2, 0),
         (&[b'-'; 64], 3, 0),
         (b"l", 8, 0),
@@ -154,6 +154,10 @@ fn order_of_decoding_lace() {
         (b"lq--74ap8", 7, 8),
         (b"LQ--AIAGCYQ", 6, 0),
         (b"lq--aiagcyr", 9, 0),
+        (b"lq--amagcllc", 6, 0),
+        (b"lq--74agc", 6, 0),
+        (b"lq--aeagc", 9, 0),
+        (b"lq--aeac2", 9, 0),
     ];
     for one in implementations() {
         for (label, code, position) in cases {
@@ -163,11 +167,12 @@ fn order_of_decoding_lace() {
     }
 }
 
+// A host label is of any case, and the neighbours of LDH make none.
 #[test]
-fn all_ldh_is_any_case_and_any_hyphen() {
+fn host_labels_of_one_point() {
     for one in implementations() {
-        for text in [vec![0x41], vec![0x2D], vec![0x5A, 0x39, 0x2D, 0x30, 0x7A]] {
-            assert_eq!(encoded(&one, Scheme::Lace, &text), Err((6, 0)));
+        for point in [0x30, 0x39, 0x41, 0x5A, 0x61, 0x7A] {
+            assert_eq!(encoded(&one, Scheme::Lace, &[point]), Err((6, 0)));
         }
         for point in [0x2C, 0x2E, 0x2F, 0x3A, 0x40, 0x5B, 0x60, 0x7B] {
             assert!(encoded(&one, Scheme::Lace, &[point]).is_ok());

@@ -142,6 +142,15 @@ fn an_error_of_a_label_has_the_index_of_the_entry() {
 }
 
 #[test]
+fn a_lace_name_may_begin_with_a_hyphen() {
+    let table = table_of(&[(0x4C, 7, b"lq--amac2ylc".to_vec())]);
+    for one in implementations() {
+        assert_eq!(verdict(&one, &table), Ok(1));
+        assert_eq!(entry(&one, &table, 0), Ok((7, 2, vec![0x2D, 0x61, 0x62])));
+    }
+}
+
+#[test]
 fn order_within_an_entry() {
     for one in implementations() {
         // Kind before number, number before length, length before filling, filling

@@ -167,7 +167,7 @@ fn every_single_point_is_encoded_and_decoded() {
         let altdude = encoded(Scheme::AltDude, &[number]);
         assert_eq!(altdude.is_some(), point && number != 45);
         let lace = encoded(Scheme::Lace, &[number]);
-        assert_eq!(lace.is_some(), point && !is_ldh(number));
+        assert_eq!(lace.is_some(), point && (number == 45 || !is_ldh(number)));
         for (scheme, label) in [(Scheme::AltDude, altdude), (Scheme::Lace, lace)] {
             if let Some(label) = label {
                 assert_eq!(decoded(scheme, &label), Some(vec![number]));
@@ -218,11 +218,12 @@ fn errors_of_encoding_name_their_cause() {
         assert_eq!(buffer, [0x5A; 63]);
         let bad = text.iter().position(|&number| !is_point(number));
         let edge = text.first() == Some(&45) || text.last() == Some(&45);
+        let ldh = text.iter().all(|&point| is_ldh(point));
         let expected = match (scheme, bad) {
             _ if text.is_empty() => (2, 0),
             (_, Some(position)) => (4, position),
             (Scheme::AltDude, None) if edge => (5, 0),
-            (Scheme::Lace, None) if text.iter().all(|&point| is_ldh(point)) => (6, 0),
+            (Scheme::Lace, None) if ldh && !edge && text.len() < 64 => (6, 0),
             _ => (3, 0),
         };
         assert_eq!((error.number(), error.position), expected);

@@ -1,7 +1,8 @@
--- The laws on case, LDH, hyphens at an edge and prefixes.
+-- The laws on case, LDH, hyphens at an edge, host labels and prefixes.
 pub mod Case
 pub mod Codec
 pub mod Ldh
 pub mod EdgeHyphen
+pub mod HostLabel
 pub mod Prefix
 pub mod Examples

@@ -1,7 +1,7 @@
-// What labels are made of: letters and their case, LDH, hyphens at an edge, and a prefix.
+// What labels are made of: letters and their case, LDH, hyphens at an edge, host labels, and a prefix.
 ghost use mathlib.Core.Path.{_≡_};
 ghost use Rattle.ascii.specs.Case.{small};
-ghost use Rattle.ascii.specs.Ldh.{isLdh, isAllLdh, hasEdgeHyphen};
+ghost use Rattle.ascii.specs.Ldh.{isLdh, isAllLdh, hasEdgeHyphen, isHostLabel};
 ghost use Rattle.ascii.specs.Prefix.{hasPrefix};
 
 // The small form of A to Z, any other byte itself.
@@ -40,7 +40,7 @@ pub fn is_ldh(number: u32) -> bool
 }
 
 // Whether all points are LDH.
-pub fn text_all_ldh(text: &[u32]) -> bool
+fn text_all_ldh(text: &[u32]) -> bool
     ensures { λ r. ⌜ r ≡ isAllLdh (now (text .entry)) ⌝ }
 {
     let mut i = 0;
@@ -54,7 +54,7 @@ pub fn text_all_ldh(text: &[u32]) -> bool
 }
 
 // Whether all units are LDH.
-pub fn units_all_ldh(units: &[u16]) -> bool
+fn units_all_ldh(units: &[u16]) -> bool
     ensures { λ r. ⌜ r ≡ isAllLdh (now (units .entry)) ⌝ }
 {
     let mut i = 0;
@@ -91,6 +91,41 @@ pub fn label_has_edge_hyphen(label: &[u8]) -> bool
         return true;
     }
     label[label.len() - 1] == 45
+}
+
+// Whether the points are a host label: 1 to 63 of them, no hyphen at either end, all LDH.
+pub fn text_is_host_label(text: &[u32]) -> bool
+    ensures { λ r. ⌜ r ≡ isHostLabel (now (text .entry)) ⌝ }
+{
+    if text.len() == 0 {
+        return false;
+    }
+    if 63 < text.len() {
+        return false;
+    }
+    if text_has_edge_hyphen(text) {
+        return false;
+    }
+    text_all_ldh(text)
+}
+
+// Whether the units are a host label: 1 to 63 of them, no hyphen at either end, all LDH.
+pub fn units_are_host_label(units: &[u16]) -> bool
+    ensures { λ r. ⌜ r ≡ isHostLabel (now (units .entry)) ⌝ }
+{
+    if units.len() == 0 {
+        return false;
+    }
+    if 63 < units.len() {
+        return false;
+    }
+    if units[0] == 45 {
+        return false;
+    }
+    if units[units.len() - 1] == 45 {
+        return false;
+    }
+    units_all_ldh(units)
 }
 
 // Whether the label begins with the prefix, case ignored.

@@ -10,7 +10,7 @@ use denote.Enum.Declared.{tagOf}
 use native.Mathlib.Omega.{arith}
 use Rattle.basis.specs.Outcome.{Outcome, done, refused, refusedIf, andThen, bufferAfter, numberOf}
 use Rattle.basis.specs.declared.ErrorCode.{ErrorCode}
-use Rattle.basis.specs.declared.ErrorCode.the-variants.{Capacity, Empty, TooLong, NotAPoint, EdgeHyphen, AllLdh, OutsideAlphabet, NoPrefix, NotWellFormed, UnpairedSurrogate, UnknownScheme, OddByteCount, Truncated, Malformed}
+use Rattle.basis.specs.declared.ErrorCode.the-variants.{Capacity, Empty, TooLong, NotAPoint, EdgeHyphen, HostLabel, OutsideAlphabet, NoPrefix, NotWellFormed, UnpairedSurrogate, UnknownScheme, OddByteCount, Truncated, Malformed}
 use Rattle.basis.proofs.ErrorCode.{the-type}
 use Rattle.basis.proofs.Parts.{front-is, front-fits, front-long}
 
@@ -150,7 +150,7 @@ number-place Empty = (refl, omega arith)
 number-place TooLong = (refl, omega arith)
 number-place NotAPoint = (refl, omega arith)
 number-place EdgeHyphen = (refl, omega arith)
-number-place AllLdh = (refl, omega arith)
+number-place HostLabel = (refl, omega arith)
 number-place OutsideAlphabet = (refl, omega arith)
 number-place NoPrefix = (refl, omega arith)
 number-place NotWellFormed = (refl, omega arith)

@@ -4,7 +4,7 @@ use mathlib.Core.Bool.{Bool, true, false}
 use mathlib.Core.List.{List, _++_}
 use lib.ListN.{drop}
 use Rattle.basis.specs.declared.ErrorCode.{ErrorCode}
-use Rattle.basis.specs.declared.ErrorCode.the-variants.{Capacity, Empty, TooLong, NotAPoint, EdgeHyphen, AllLdh, OutsideAlphabet, NoPrefix, NotWellFormed, UnpairedSurrogate, UnknownScheme, OddByteCount, Truncated, Malformed}
+use Rattle.basis.specs.declared.ErrorCode.the-variants.{Capacity, Empty, TooLong, NotAPoint, EdgeHyphen, HostLabel, OutsideAlphabet, NoPrefix, NotWellFormed, UnpairedSurrogate, UnknownScheme, OddByteCount, Truncated, Malformed}
 use Rattle.basis.specs.declared.BytesAnswer.{BytesAnswer}
 use Rattle.basis.specs.declared.BytesAnswer.the-variants.{Bytes, Error}
 
@@ -15,7 +15,7 @@ numberOf Empty = 2
 numberOf TooLong = 3
 numberOf NotAPoint = 4
 numberOf EdgeHyphen = 5
-numberOf AllLdh = 6
+numberOf HostLabel = 6
 numberOf OutsideAlphabet = 7
 numberOf NoPrefix = 8
 numberOf NotWellFormed = 9

@@ -13,7 +13,7 @@ use Rattle.basis.specs.Outcome.{Outcome, done, refused, refusedIf, andThen, buf
 use Rattle.basis.specs.Outcome as basis
 use Rattle.basis.proofs.Tests.{cases, true-not-false, within-low, within-high, first-le, none-iff}
 use Rattle.basis.proofs.Outcome.{by-test, done-not-refused, done-count}
-use Rattle.ascii.specs.Ldh.{isAllLdh}
+use Rattle.ascii.specs.Ldh.{isHostLabel}
 use Rattle.utf16.specs.Points.{isPoint, isText, firstNotPoint}
 use Rattle.utf16.specs.Units as utf16
 use Rattle.utf16.specs.Bytes.{unitsOfBytes, bytesOfUnits, pointsOf, bytesOf}
@@ -204,7 +204,7 @@ module _ (codes : List ℕ) (capacity : ℕ) (t : List ℕ)
   unfolding altdude.encodeOutcome
   altdude-encoded five = own-good 5 _ _ five
 
-  lace-encoded : isOneOf codes 6 ≡ true → Good codes (lace.encodeOutcome isAllLdh capacity t) (lace-encoding.labelOf t) capacity
+  lace-encoded : isOneOf codes 6 ≡ true → Good codes (lace.encodeOutcome isHostLabel capacity t) (lace-encoding.labelOf t) capacity
   unfolding lace.encodeOutcome
   lace-encoded six = own-good 6 _ _ six
 
@@ -219,7 +219,7 @@ module _ (codes : List ℕ) (capacity : ℕ) (l : List ℕ)
       good-if _ _ _ (λ _. seven) (λ _. good-if _ _ _ (λ _. five) (λ _. good-if _ _ _ (λ _. nine) (λ _.
       good-done _ refl (omega (arith, altdude-laws.text-fits l))))))
 
-  lace-decoded : isOneOf codes 8 ≡ true → isOneOf codes 6 ≡ true → Good codes (lace.decodeOutcome isAllLdh capacity l) (lace-decoding.textOf l) capacity
+  lace-decoded : isOneOf codes 8 ≡ true → isOneOf codes 6 ≡ true → Good codes (lace.decodeOutcome isHostLabel capacity l) (lace-decoding.textOf l) capacity
   unfolding lace.decodeOutcome
   lace-decoded eight six =
       label-good capacity (length l) one two three (λ room short.

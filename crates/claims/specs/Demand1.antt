@@ -12,7 +12,7 @@ use lib.ListN.{length, take, drop}
 use Rattle.basis.specs.Rows.{at, AllBelow}
 use Rattle.basis.specs.Outcome.{Outcome, done, refused, countOf, bufferAfter}
 use Rattle.basis.specs.Causes.{Settles}
-use Rattle.ascii.specs.Ldh.{isAllLdh}
+use Rattle.ascii.specs.Ldh.{isHostLabel}
 use Rattle.utf16.specs.Units as utf16
 use Rattle.utf16.specs.Bytes.{unitsOfBytes, bytesOfUnits, pointsOf, bytesOf}
 use Rattle.utf16.specs.Answer as utf16-answer
@@ -142,9 +142,9 @@ pub record Demand1 : Type 0 where
   pub altdudeDecode : (label text : List ℕ)
       → Answers (decodeCodes Altdude) (altdude.decodeOutcome (length text) label) (altdude-decoding.textOf label) text
   pub laceEncode : (text label : List ℕ)
-      → Answers (encodeCodes Lace) (lace.encodeOutcome isAllLdh (length label) text) (lace-encoding.labelOf text) label
+      → Answers (encodeCodes Lace) (lace.encodeOutcome isHostLabel (length label) text) (lace-encoding.labelOf text) label
   pub laceDecode : (label text : List ℕ)
-      → Answers (decodeCodes Lace) (lace.decodeOutcome isAllLdh (length text) label) (lace-decoding.textOf label) text
+      → Answers (decodeCodes Lace) (lace.decodeOutcome isHostLabel (length text) label) (lace-decoding.textOf label) text
   pub schemeEncode : (s : Scheme) (text label : List ℕ)
       → Answers (encodeCodes s) (scheme.encodeOutcome s (length label) text) (scheme.labelOf s text) label
   pub schemeDecode : (s : Scheme) (label text : List ℕ)

@@ -2,14 +2,16 @@
 -- definitions that the contracts cite, in the specs/Codec.antt of altdude_facts and of lace_facts.
 use Prim.Native.Nat.{ℕ, _≤_, _<_}
 use mathlib.Core.Path.{_≡_}
+use mathlib.Core.Bool.{true}
 use mathlib.Core.Logic.{_↔_}
 use mathlib.Core.List.{List, _∷_}
 use lib.ListN.{length, take}
 use Rattle.basis.specs.Rows.{AllBelow}
 use Rattle.basis.specs.Causes.{whole, NoCause, Settles}
-use Rattle.basis.specs.Outcome.{Outcome, done, bufferAfter}
+use Rattle.basis.specs.Outcome.{Outcome, done, refused, bufferAfter}
 use Rattle.basis.specs.Codec.{Codec, Writable}
 use Rattle.ascii.specs.Case.{SameButCase}
+use Rattle.ascii.specs.Ldh.{isAllLdh}
 use Rattle.altdude_facts.specs.WellFormed as altdude-form
 use Rattle.altdude_facts.specs.Codec as altdude
 use Rattle.lace_facts.specs.WellFormed as lace-form
@@ -91,10 +93,11 @@ pub record Demand2AtInterface : Type 0 where
       → ReadsBytes number buffer l bytes ↔ (MayWrite number bytes × SameButCase (writtenLabel number bytes) l)
   pub houseDefault : MeanTheSame 0 1
 
--- demand 2 of AltDUDE and LACE, and carried to the C interface
+-- demand 2 of AltDUDE and LACE, and carried to the C interface; an LDH text of more than 63 points gets 3 from LACE
 pub record Demand2 : Type 0 where
   pub ofAltdude : Demand2Of altdude.codec
   pub ofLace : Demand2Of lace.codec
+  pub longLdh : (capacity : ℕ) (t : List ℕ) → 63 ≤ capacity → isAllLdh t ≡ true → 63 < length t → lace.codec .encodeOutcome capacity t ≡ refused 3 0
   pub atInterface : Demand2AtInterface
 
 -- demand 3 of AltDUDE and LACE

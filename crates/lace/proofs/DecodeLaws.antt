@@ -25,7 +25,7 @@ use Rattle.basis.proofs.Stores.{Storing, storing-more, storing-none}
 use Rattle.basis.proofs.Parts.{part-is, front-is, front-fits}
 use Rattle.basis.proofs.Outcome.{pass-given, handed-leaves, number-place}
 use Rattle.ascii.specs.Prefix.{hasPrefix, afterPrefix}
-use Rattle.ascii.specs.Ldh.{isAllLdh}
+use Rattle.ascii.specs.Ldh.{isHostLabel}
 use Rattle.ascii.proofs.Prefix.{prefix-long}
 use Rattle.utf16.specs.Units.{toPoints, unpairedAt, firstUnpaired}
 use Rattle.utf16.specs.Answer.{pointsOutcome, toPointsOutcome}
@@ -208,8 +208,8 @@ module _ (os old row : List ℕ) (n : ℕ) (s : Stored (unitsOf os) old row n) w
         all-done (length row) n n capacity (firstUnpaired (take n row)) 10 _ (units-within os old row n s) (omega (arith, s .0, units-le os)) bad badIs h
         (length (toPoints (unitsOf os))) (rw (units-front os old row n s))
 
-  pub ldh-is : (ldh : Bool) → ldh ≡ isAllLdh (take n row) → ldh ≡ isAllLdh (unitsOf os)
-  ldh-is ldh e = e ∙ ap isAllLdh (units-front os old row n s)
+  pub host-label-is : (host : Bool) → host ≡ isHostLabel (take n row) → host ≡ isHostLabel (unitsOf os)
+  host-label-is host e = e ∙ ap isHostLabel (units-front os old row n s)
 
 -- every error of the Base32 reader but that of a byte outside the alphabet, by their places among all
 abbrev otherCodes : List ℕ
@@ -270,7 +270,7 @@ afterReading (refused number position) next = errorAfterPrefix number position
 after-prefix : (l : List ℕ) → length l ≤ 63
     → refusedIf (ltb (firstOutside lace (afterPrefix prefix l)) (length (afterPrefix prefix l))) 7 (4 + firstOutside lace (afterPrefix prefix l))
     (refusedIf (not (isReadable l)) 9 0
-    (refusedIf (isAllLdh (labelUnits l)) 6 0
+    (refusedIf (isHostLabel (labelUnits l)) 6 0
     (done (length (textOf l)))))
     ≡ afterReading (base32.decodeOutcome (afterPrefix prefix l) 36) (octetsOutcome (labelOctets l))
 unfolding base32.decodeOutcome refusedIf octetsOutcome isReadable both afterReading errorAfterPrefix labelUnits textOf
@@ -287,9 +287,9 @@ after-prefix l short =
 module _ (buffer l : List ℕ) (checked : LabelPassed (length buffer) (length l)) (has : Bool) (hasIs : has ≡ hasPrefix prefix l) (yes : not has ≡ false)
     (answer : BytesAnswer) (answerIs : bytesOutcome answer ≡ base32.decodeOutcome (passed l) 36) where
   abbrev Answered : PointsAnswer → List ℕ → Type 0
-  Answered r left = (pointsOutcome r ≡ decodeOutcome isAllLdh (length buffer) l) × (left ≡ bufferAfter (decodeOutcome isAllLdh (length buffer) l) (textOf l) buffer)
+  Answered r left = (pointsOutcome r ≡ decodeOutcome isHostLabel (length buffer) l) × (left ≡ bufferAfter (decodeOutcome isHostLabel (length buffer) l) (textOf l) buffer)
 
-  decode-after : decodeOutcome isAllLdh (length buffer) l ≡ afterReading (base32.decodeOutcome (afterPrefix prefix l) 36) (octetsOutcome (labelOctets l))
+  decode-after : decodeOutcome isHostLabel (length buffer) l ≡ afterReading (base32.decodeOutcome (afterPrefix prefix l) 36) (octetsOutcome (labelOctets l))
   unfolding decodeOutcome
   decode-after = label-passes _ _ _ checked ∙ pass-given _ _ _ _ _ (ap not hasIs) yes ∙ after-prefix l (checked .short)
 
@@ -297,7 +297,7 @@ module _ (buffer l : List ℕ) (checked : LabelPassed (length buffer) (length l)
       → Answered r buffer
   unfolding afterReading bufferAfter errorAfterPrefix
   answer-error code position e r a =
-      let o : decodeOutcome isAllLdh (length buffer) l ≡ errorAfterPrefix (numberOf code) position = decode-after ∙ rw (error-is l (checked .short) answer answerIs code position e) in
+      let o : decodeOutcome isHostLabel (length buffer) l ≡ errorAfterPrefix (numberOf code) position = decode-after ∙ rw (error-is l (checked .short) answer answerIs code position e) in
       (a ∙ sym o, rw o (cases (eqb (numberOf code) 7) (λ t. rw t) (λ t. rw t)))
 
   pub answer-octets : (count : ByteCount) → answer ≡ bytes.Bytes count → (row old : List ℕ)

@@ -6,7 +6,7 @@ use lib.Dec.{eqb, ltb}
 use lib.ListN.{length}
 use Rattle.basis.specs.Tests.{pick}
 use Rattle.basis.specs.Outcome.{Outcome, done, refused, refusedIf}
-use Rattle.ascii.specs.Ldh.{isAllLdh}
+use Rattle.ascii.specs.Ldh.{isHostLabel}
 use Rattle.utf16.specs.Units.{toPoints, firstUnpaired}
 use Rattle.base32.specs.Base32.{quintetCount}
 use Rattle.lace.specs.Encoding.{octetsOf}
@@ -36,7 +36,7 @@ unfoldable pub octetsOutcome : List ℕ → Outcome
 octetsOutcome os =
     refusedIf (not (standForUnits os)) 9 0
     (refusedIf (not (eqb (firstUnpaired (unitsOf os)) (length (unitsOf os)))) 9 0
-    (refusedIf (isAllLdh (unitsOf os)) 6 0
+    (refusedIf (isHostLabel (unitsOf os)) 6 0
     (done (length (toPoints (unitsOf os))))))
 
 -- what is answered for an error of the Base32 reader, by its number: 7 is at its index in the label, any other is 9

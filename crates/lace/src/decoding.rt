@@ -189,15 +189,15 @@ pub(crate) fn decode_octets(octets: &[u8], text: &mut [u32]) -> PointsAnswer
     let row = &units[..n];
     let meant = stand_for_units(octets, row);
     let unpaired = utf16::units::first_unpaired(row);
-    let all_ldh = ascii::units_all_ldh(row);
+    let host_label = ascii::units_are_host_label(row);
     if !meant {
         return utf16::points_error(ErrorCode::NotWellFormed, 0);
     }
     if unpaired < n {
         return utf16::points_error(ErrorCode::NotWellFormed, 0);
     }
-    if all_ldh {
-        return utf16::points_error(ErrorCode::AllLdh, 0);
+    if host_label {
+        return utf16::points_error(ErrorCode::HostLabel, 0);
     }
     utf16::to_points(&units, UnitCount(n), text)
 }

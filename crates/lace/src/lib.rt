@@ -14,15 +14,15 @@ ghost use mathlib.Core.Path.{_≡_};
 ghost use lib.ListN.{length};
 ghost use Rattle.basis.specs.Outcome.{bytesOutcome, bufferAfter};
 ghost use Rattle.utf16.specs.Answer.{pointsOutcome};
-ghost use Rattle.ascii.specs.Ldh.{isAllLdh};
+ghost use Rattle.ascii.specs.Ldh.{isHostLabel};
 ghost use Rattle.lace.specs.Encoding.{labelOf};
 ghost use Rattle.lace.specs.Decoding.{textOf};
 ghost use Rattle.lace.specs.Answer.{encodeOutcome, decodeOutcome};
 
 // Writes the label of a text.
 pub fn encode(text: &[u32], label: &mut [u8]) -> BytesAnswer
-    ensures { λ r. ⌜ bytesOutcome r ≡ encodeOutcome isAllLdh (length (now (label .entry))) (now (text .entry)) ⌝ }
-    ensures { λ _. ⌜ now (label .exit) ≡ bufferAfter (encodeOutcome isAllLdh (length (now (label .entry))) (now (text .entry))) (labelOf (now (text .entry))) (now (label .entry)) ⌝ }
+    ensures { λ r. ⌜ bytesOutcome r ≡ encodeOutcome isHostLabel (length (now (label .entry))) (now (text .entry)) ⌝ }
+    ensures { λ _. ⌜ now (label .exit) ≡ bufferAfter (encodeOutcome isHostLabel (length (now (label .entry))) (now (text .entry))) (labelOf (now (text .entry))) (now (label .entry)) ⌝ }
 {
     let check = labels::check_text(text, label.len());
     match check {
@@ -31,9 +31,9 @@ pub fn encode(text: &[u32], label: &mut [u8]) -> BytesAnswer
         }
         Check::Passed => {}
     }
-    let all_ldh = ascii::text_all_ldh(text);
-    if all_ldh {
-        return basis::bytes_error(ErrorCode::AllLdh, 0);
+    let host_label = ascii::text_is_host_label(text);
+    if host_label {
+        return basis::bytes_error(ErrorCode::HostLabel, 0);
     }
     if 34 < text.len() {
         return basis::bytes_error(ErrorCode::TooLong, 0);
@@ -51,8 +51,8 @@ pub fn encode(text: &[u32], label: &mut [u8]) -> BytesAnswer
 
 // Reads the text of a label.
 pub fn decode(label: &[u8], text: &mut [u32]) -> PointsAnswer
-    ensures { λ r. ⌜ pointsOutcome r ≡ decodeOutcome isAllLdh (length (now (text .entry))) (now (label .entry)) ⌝ }
-    ensures { λ _. ⌜ now (text .exit) ≡ bufferAfter (decodeOutcome isAllLdh (length (now (text .entry))) (now (label .entry))) (textOf (now (label .entry))) (now (text .entry)) ⌝ }
+    ensures { λ r. ⌜ pointsOutcome r ≡ decodeOutcome isHostLabel (length (now (text .entry))) (now (label .entry)) ⌝ }
+    ensures { λ _. ⌜ now (text .exit) ≡ bufferAfter (decodeOutcome isHostLabel (length (now (text .entry))) (now (label .entry))) (textOf (now (label .entry))) (now (text .entry)) ⌝ }
 {
     let check = labels::check_label(label.len(), text.len());
     let prefixed = ascii::has_prefix(label, &prefix::PREFIX);

@@ -113,14 +113,14 @@ module _ (l : List ℕ) (w : WellFormed l) where
   formed-tested = formed-passes l (w .units) (w .formed)
 
   formed-free : reserved (labelUnits l) ≡ false
-  formed-free = ap reserved (sym (formed-units l (w .units) (w .formed))) ∙ w .notAllLdh
+  formed-free = ap reserved (sym (formed-units l (w .units) (w .formed))) ∙ w .noHostLabel
 
   formed-spelled : labelOf (textOf l) ≡ map small l
   formed-spelled = passes-spelled l formed-tested
 
 -- a label that passes the tests and whose units are not reserved is well formed
 passes-well : (l : List ℕ) → Passes l → reserved (labelUnits l) ≡ false → WellFormed l
-passes-well l p r = record { units = labelUnits l; formed = passes-formed l p; notAllLdh = r }
+passes-well l p r = record { units = labelUnits l; formed = passes-formed l p; noHostLabel = r }
 
 -- the labels that may be read are those that are well formed
 well-formed-iff : (l : List ℕ) → NoCause (labelCauses l) ↔ WellFormed l
@@ -162,7 +162,7 @@ formed-writable l w =
         text = text;
         short = omega (arith, w .formed .short, ap length (formed-spelled l w), length-map l small);
       },
-      λ p h. true-not-false (h .1) (sym (reserved-units (textOf l) text) ∙ ap reserved (passes-units l (formed-tested l w)) ∙ formed-free l w),
+      λ p h. true-not-false (h .1) (sym (reserved-units (textOf l)) ∙ ap reserved (passes-units l (formed-tested l w)) ∙ formed-free l w),
     )
 
 -- what is the label of a text that may be written is well formed, and its text is that text
@@ -176,7 +176,7 @@ module _ (t l : List ℕ) (w : Writable codec t) (e : SameButCase (labelOf t) l)
   spelled-formed : WellFormed l
   spelled-formed =
       passes-well l (passes-case (labelOf t) l (same-but-case (labelOf t) l .0 e) (label-passes t (written .some) (written .text) (written .short)))
-      (ap reserved same-units ∙ reserved-units t (written .text) ∙ absent-whole (reserved t) Iff·rfl (written-iff t .0 w .1))
+      (ap reserved same-units ∙ reserved-units t ∙ absent-whole (reserved t) Iff·rfl (written-iff t .0 w .1))
 
   same-text : textOf l ≡ t
   unfolding textOf

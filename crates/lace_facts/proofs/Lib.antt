@@ -6,4 +6,5 @@ pub mod PrefixRule
 pub mod Label
 pub mod Reserved
 pub mod Settled
+pub mod LongLdh
 pub mod Faithful

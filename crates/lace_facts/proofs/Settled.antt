@@ -20,7 +20,7 @@ use Rattle.lace_facts.proofs.PrefixRule.{prefix-iff}
 use Rattle.lace_facts.specs.WellFormed.{Formed}
 use Rattle.lace.specs.Decoding.{isReadable, labelUnits, textOf}
 use Rattle.lace.specs.Answer.{encodeOutcome, decodeOutcome}
-use Rattle.lace_facts.specs.Causes.{OutsideAfterPrefix, NotFormed, OnlyAllLdh, textCauses, labelCauses}
+use Rattle.lace_facts.specs.Causes.{OutsideAfterPrefix, NotFormed, OnlyHostLabel, textCauses, labelCauses}
 use Rattle.lace_facts.proofs.Label.{Passes, passes-formed, formed-units, formed-iff}
 use Rattle.lace_facts.proofs.Reserved.{reserved}
 
@@ -35,7 +35,7 @@ module _ (l : List ℕ) (short : length l ≤ 63) (first : hasPrefix prefix l �
   pub unreadable-iff : (not (isReadable l) ≡ true) ↔ NotFormed l
   unreadable-iff = let i = fails-iff (isReadable l) readable-iff in (λ e units f. i .0 e (units, f), λ n. i .1 (λ f. n (f .0) (f .1)))
 
-  pub reserved-iff : isReadable l ≡ true → (reserved (labelUnits l) ≡ true) ↔ OnlyAllLdh l
+  pub reserved-iff : isReadable l ≡ true → (reserved (labelUnits l) ≡ true) ↔ OnlyHostLabel l
   reserved-iff e = (
     λ r. (labelUnits l, passes-formed l (passes e), r),
     λ f. ap reserved (sym (formed-units l (f .0) (f .1))) ∙ f .2,

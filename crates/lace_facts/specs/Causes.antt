@@ -7,7 +7,7 @@ use Rattle.basis.specs.Rows.{at}
 use Rattle.basis.specs.Causes.{Cause, whole, placed}
 use Rattle.ascii.specs.Case.{small}
 use Rattle.ascii.specs.Prefix.{afterPrefix}
-use Rattle.ascii.specs.Ldh.{isAllLdh}
+use Rattle.ascii.specs.Ldh.{isHostLabel}
 use Rattle.labels.specs.Causes.{TooLong}
 use Rattle.labels.specs.Causes as labels
 use Rattle.base32.specs.Alphabet.{lace}
@@ -28,15 +28,15 @@ OutsideAfterPrefix l position = (i : ℕ) × (position ≡ 4 + i) × OutsideAt l
 abbrev pub NotFormed : List ℕ → Type 0
 NotFormed l = (units : List ℕ) → Formed l units → ⊥
 
--- 6: only the last rule fails, since all units are LDH
-abbrev pub OnlyAllLdh : List ℕ → Type 0
-OnlyAllLdh l = (units : List ℕ) × Formed l units × (isAllLdh units ≡ true)
+-- 6: only the last rule fails, since the units are a host label
+abbrev pub OnlyHostLabel : List ℕ → Type 0
+OnlyHostLabel l = (units : List ℕ) × Formed l units × (isHostLabel units ≡ true)
 
 -- against writing a text, in order: 2, 4, 6, 3
 abbrev pub textCauses : List ℕ → List Cause
-textCauses t = labels.textCauses t (whole 6 (isAllLdh t ≡ true) ∷ whole 3 (TooLong (labelOf t)) ∷ [])
+textCauses t = labels.textCauses t (whole 6 (isHostLabel t ≡ true) ∷ whole 3 (TooLong (labelOf t)) ∷ [])
 
 -- against reading a label, in order: 2, 3, 8, 7, 9, 6
 abbrev pub labelCauses : List ℕ → List Cause
 labelCauses l =
-    labels.labelCauses l (whole 8 (NoPrefix l) ∷ placed 7 (OutsideAfterPrefix l) ∷ whole 9 (NotFormed l) ∷ whole 6 (OnlyAllLdh l) ∷ [])
+    labels.labelCauses l (whole 8 (NoPrefix l) ∷ placed 7 (OutsideAfterPrefix l) ∷ whole 9 (NotFormed l) ∷ whole 6 (OnlyHostLabel l) ∷ [])

@@ -2,7 +2,7 @@
 use mathlib.Core.Path.{_≡_}
 use Rattle.basis.specs.Codec.{Codec}
 use Rattle.ascii.specs.Case.{SameButCase}
-use Rattle.ascii.specs.Ldh.{isAllLdh}
+use Rattle.ascii.specs.Ldh.{isHostLabel}
 use Rattle.lace.specs.Encoding.{labelOf}
 use Rattle.lace.specs.Decoding.{textOf}
 use Rattle.lace.specs.Answer.{encodeOutcome, decodeOutcome}
@@ -11,8 +11,8 @@ use Rattle.lace_facts.specs.Causes.{textCauses, labelCauses}
 -- labels are the same that differ at most in case, and texts that are equal
 abbrev pub codec : Codec
 codec = record {
-  encodeOutcome = encodeOutcome isAllLdh;
-  decodeOutcome = decodeOutcome isAllLdh;
+  encodeOutcome = encodeOutcome isHostLabel;
+  decodeOutcome = decodeOutcome isHostLabel;
   labelOf = labelOf;
   textOf = textOf;
   textCauses = textCauses;

@@ -8,7 +8,7 @@ use lib.ListN.{length}
 use Rattle.basis.specs.Rows.{at, AllBelow}
 use Rattle.ascii.specs.Case.{small}
 use Rattle.ascii.specs.Prefix.{afterPrefix}
-use Rattle.ascii.specs.Ldh.{isAllLdh}
+use Rattle.ascii.specs.Ldh.{isHostLabel}
 use Rattle.utf16.specs.Surrogates.{unpairedAt}
 use Rattle.base32.specs.Alphabet.{lace, isCharacter, valuesOf}
 use Rattle.base32.specs.Bits.{rowBit}
@@ -77,8 +77,8 @@ pub record Formed (l units : List ℕ) : Type 0 where
   pub standFor : StandFor octets units
   pub paired : (i : ℕ) → i < length units → unpairedAt 0 units i ≡ false
 
--- the rules of form: those above, and not all units are LDH
+-- the rules of form: those above, and the units are no host label
 pub record WellFormed (l : List ℕ) : Type 0 where
   pub units : List ℕ
   pub formed : Formed l units
-  pub notAllLdh : isAllLdh units ≡ false
+  pub noHostLabel : isHostLabel units ≡ false

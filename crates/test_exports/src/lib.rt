@@ -13,7 +13,7 @@ ghost use Rattle.utf16.specs.Answer.{toUnitsOutcome, toPointsOutcome};
 ghost use Rattle.altdude.specs.Encoding.{labelOf as altdudeLabelOf};
 ghost use Rattle.altdude.specs.Decoding.{textOf as altdudeTextOf};
 ghost use Rattle.altdude.specs.Answer.{encodeOutcome as altdudeEncodeOutcome, decodeOutcome as altdudeDecodeOutcome};
-ghost use Rattle.ascii.specs.Ldh.{isAllLdh};
+ghost use Rattle.ascii.specs.Ldh.{isHostLabel};
 ghost use Rattle.lace.specs.Encoding.{labelOf as laceLabelOf};
 ghost use Rattle.lace.specs.Decoding.{textOf as laceTextOf};
 ghost use Rattle.lace.specs.Answer.{encodeOutcome as laceEncodeOutcome, decodeOutcome as laceDecodeOutcome};
@@ -65,8 +65,8 @@ pub extern "C" fn test_altdude_decode(label: &[u8], text: &mut [u32], answer: &m
 // Exports `lace::encode`.
 #[no_mangle]
 pub extern "C" fn test_lace_encode(text: &[u32], label: &mut [u8], answer: &mut [u64])
-    ensures { λ _. ⌜ now (label .exit) ≡ bufferAfter (laceEncodeOutcome isAllLdh (length (now (label .entry))) (now (text .entry))) (laceLabelOf (now (text .entry))) (now (label .entry)) ⌝ }
-    ensures { λ _. ⌜ now (answer .exit) ≡ answerAfter (numbersOf (laceEncodeOutcome isAllLdh (length (now (label .entry))) (now (text .entry)))) (now (answer .entry)) ⌝ }
+    ensures { λ _. ⌜ now (label .exit) ≡ bufferAfter (laceEncodeOutcome isHostLabel (length (now (label .entry))) (now (text .entry))) (laceLabelOf (now (text .entry))) (now (label .entry)) ⌝ }
+    ensures { λ _. ⌜ now (answer .exit) ≡ answerAfter (numbersOf (laceEncodeOutcome isHostLabel (length (now (label .entry))) (now (text .entry)))) (now (answer .entry)) ⌝ }
 {
     answers::store_bytes(lace::encode(text, label), answer);
 }
@@ -74,8 +74,8 @@ pub extern "C" fn test_lace_encode(text: &[u32], label: &mut [u8], answer: &mut 
 // Exports `lace::decode`.
 #[no_mangle]
 pub extern "C" fn test_lace_decode(label: &[u8], text: &mut [u32], answer: &mut [u64])
-    ensures { λ _. ⌜ now (text .exit) ≡ bufferAfter (laceDecodeOutcome isAllLdh (length (now (text .entry))) (now (label .entry))) (laceTextOf (now (label .entry))) (now (text .entry)) ⌝ }
-    ensures { λ _. ⌜ now (answer .exit) ≡ answerAfter (numbersOf (laceDecodeOutcome isAllLdh (length (now (text .entry))) (now (label .entry)))) (now (answer .entry)) ⌝ }
+    ensures { λ _. ⌜ now (text .exit) ≡ bufferAfter (laceDecodeOutcome isHostLabel (length (now (text .entry))) (now (label .entry))) (laceTextOf (now (label .entry))) (now (text .entry)) ⌝ }
+    ensures { λ _. ⌜ now (answer .exit) ≡ answerAfter (numbersOf (laceDecodeOutcome isHostLabel (length (now (text .entry))) (now (label .entry)))) (now (answer .entry)) ⌝ }
 {
     answers::store_points(lace::decode(label, text), answer);
 }

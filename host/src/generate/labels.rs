@@ -1,7 +1,7 @@
 //! Labels of both schemes, lawful and not.
 
 use super::texts::{
-    ldh_row, point, points, random_bytes, some_runs, units_of, unpaired, NOT_POINTS, ROW_MAX,
+    ldh_text, point, points, random_bytes, some_runs, units_of, unpaired, NOT_POINTS, ROW_MAX,
 };
 use super::Source;
 use crate::point::{HYPHEN, LABEL_MAX};
@@ -96,14 +96,14 @@ fn runs_cut_apart(source: &mut Source, units: &[u16]) -> Vec<u8> {
     octets
 }
 
-/// The units of a short text: in runs, with surrogates, or all LDH.
-fn short_units(source: &mut Source) -> Vec<u16> {
-    let mut units = match source.below(8) {
-        0 | 1 => unpaired(source),
-        2 | 3 => {
-            let length = source.between(1, 20);
-            ldh_row(source, length).iter().map(|&point| point as u16).collect()
-        }
+/// The units of a text that is short, mostly: LDH, in runs, or with surrogates.
+fn some_units(source: &mut Source) -> Vec<u16> {
+    if source.once_in(4) {
+        let length = source.between(1, 34);
+        return units_of(&ldh_text(source, length));
+    }
+    let mut units = match source.below(3) {
+        0 => unpaired(source),
         _ => units_of(&some_runs(source)),
     };
     units.truncate(source.between(1, 18));
@@ -137,7 +137,7 @@ fn octets_fault(source: &mut Source, octets: &mut Vec<u8>) {
 /// A LACE label made from octets, sometimes with a spare bit set or zero bits
 /// after the end.
 fn lace_near_miss(source: &mut Source) -> Vec<u8> {
-    let units = short_units(source);
+    let units = some_units(source);
     let mut octets = octets_in_a_form(source, &units);
     if !octets.is_empty() && source.once_in(3) {
         octets_fault(source, &mut octets);

@@ -45,9 +45,22 @@ fn one_row(source: &mut Source, length: usize) -> Vec<u32> {
 }
 
 /// A row of so many LDH points.
-pub fn ldh_row(source: &mut Source, length: usize) -> Vec<u32> {
+fn ldh_row(source: &mut Source, length: usize) -> Vec<u32> {
     let characters = b"abcxyzABCXYZ0129-";
     (0..length).map(|_| u32::from(source.pick(characters))).collect()
+}
+
+/// LDH points: a host label about as often as not, else with a hyphen at an edge
+/// or too many.
+pub fn ldh_text(source: &mut Source, length: usize) -> Vec<u32> {
+    let length = if source.once_in(3) { source.between(60, 70) } else { length };
+    let mut text = ldh_row(source, length);
+    match source.below(6) {
+        0 => text[0] = HYPHEN,
+        1 => text[length - 1] = HYPHEN,
+        _ => {}
+    }
+    text
 }
 
 /// Some runs of one to five points each.
@@ -93,7 +106,7 @@ pub fn points(source: &mut Source) -> Vec<u32> {
         0 | 1 => one_row(source, length),
         2 => (0..length).map(|_| point(source)).collect(),
         3 => some_runs(source),
-        4 => ldh_row(source, length),
+        4 => ldh_text(source, length),
         5 => vec![point(source); length],
         6 => ever_changing(source.between(16, 19)),
         7 => in_turn(source.between(8, 13)),

@@ -10,7 +10,7 @@ use native.Mathlib.Omega.{arith}
 use Rattle.basis.specs.Outcome.{Outcome, refused, numberOf, bufferAfter}
 use Rattle.basis.specs.declared.ErrorCode.{ErrorCode}
 use Rattle.basis.proofs.Outcome.{stop-given, refusal-leaves}
-use Rattle.ascii.specs.Ldh.{isAllLdh}
+use Rattle.ascii.specs.Ldh.{isHostLabel}
 use Rattle.ascii.specs.Prefix.{hasPrefix}
 use Rattle.ascii.proofs.has_prefix.Reads as has-prefix-reads
 use Rattle.utf16.specs.Answer.{pointsOutcome}
@@ -34,7 +34,7 @@ use Rattle.lace.proofs.decoding.decode_octets.Reads as decode-octets-re
 -- after the first tests: what they refuse
 module _ (k : lts.After-check-label (check-label-reads.Asked, check-label-reads.Learnt, has-prefix-reads.Asked, has-prefix-reads.Learnt, points-error-reads.Asked, points-error-reads.Learnt, base32-decode-reads.Asked, base32-decode-reads.Learnt, after-prefix-error-reads.Asked, after-prefix-error-reads.Learnt, decode-octets-reads.Asked, decode-octets-reads.Learnt) reads.Pre reads.Post) where
   abbrev outcome : Outcome
-  outcome = let a = k .before .before .before .args in decodeOutcome isAllLdh (length (a .text .now)) (a .label .now)
+  outcome = let a = k .before .before .before .args in decodeOutcome isHostLabel (length (a .text .now)) (a .label .now)
 
   first-refused : {code : ErrorCode} {position : ℕ} → k .check-label .result ≡ Error code position → outcome ≡ refused (numberOf code) position
   unfolding decodeOutcome
@@ -58,7 +58,7 @@ returns-2 c =
     let h = p .before .before in
     let k = h .before .before in
     let l = k .before .before .before .args .label .now in
-    refusal-leaves (decodeOutcome isAllLdh _ l) _ _ _ 8 0 (ap pointsOutcome (c .points-error2 .ensures))
+    refusal-leaves (decodeOutcome isHostLabel _ l) _ _ _ 8 0 (ap pointsOutcome (c .points-error2 .ensures))
     (check-passes _ _ (k .check-label .ensures) _ (p .enum-told .given .1)
     ∙ stop-given 8 0 _ _ (not (hasPrefix prefix l)) (ap not (h .has-prefix .ensures)) (c .before .if1 .taken))
 

@@ -4,8 +4,8 @@ use native.Mathlib.Omega.{arith}
 use borrow.Author.Needs.{needs}
 use Rattle.basis.specs.Outcome.{bytesOutcome}
 use Rattle.basis.proofs.Outcome.{stop-given, pass-given, stop-below, refusal-leaves, handed-leaves}
-use Rattle.ascii.specs.Ldh.{isAllLdh}
-use Rattle.ascii.proofs.text_all_ldh.Reads as text-all-ldh-reads
+use Rattle.ascii.specs.Ldh.{isHostLabel}
+use Rattle.ascii.proofs.text_is_host_label.Reads as text-is-host-label-reads
 use Rattle.utf16.specs.Answer.{unitsOutcome}
 use Rattle.labels.proofs.FirstTests.{check-stops, check-passes, text-checked}
 use Rattle.lace.specs.Answer.{encodeOutcome}
@@ -23,27 +23,27 @@ returns : tie.Need-returns
 unfolding bytesOutcome encodeOutcome
 returns c =
     let k = c .before .before in
-    refusal-leaves (encodeOutcome isAllLdh _ _) _ _ _ _ _ (ap bytesOutcome (c .bytes-error .ensures)) (check-stops _ _ (k .before .before .check-text .ensures) _ _ _ (k .check .given .1))
+    refusal-leaves (encodeOutcome isHostLabel _ _) _ _ _ _ _ (ap bytesOutcome (c .bytes-error .ensures)) (check-stops _ _ (k .before .before .check-text .ensures) _ _ _ (k .check .given .1))
 
 returns-2 : tie.Need-returns-2
 unfolding bytesOutcome encodeOutcome
 returns-2 c =
     let h = c .before .before in
     let p = h .before in
-    refusal-leaves (encodeOutcome isAllLdh _ _) _ _ _ 6 0 (ap bytesOutcome (c .bytes-error2 .ensures))
-    (check-passes _ _ (p .before .before .check-text .ensures) _ (p .enum-told .given .1) ∙ stop-given 6 0 _ _ _ (h .text-all-ldh .ensures) (c .before .if1 .taken))
+    refusal-leaves (encodeOutcome isHostLabel _ _) _ _ _ 6 0 (ap bytesOutcome (c .bytes-error2 .ensures))
+    (check-passes _ _ (p .before .before .check-text .ensures) _ (p .enum-told .given .1) ∙ stop-given 6 0 _ _ _ (h .text-is-host-label .ensures) (c .before .if1 .taken))
 
 returns-3 : tie.Need-returns-3
 unfolding bytesOutcome encodeOutcome
 returns-3 c =
     let h = c .before .before .before in
     let p = h .before in
-    refusal-leaves (encodeOutcome isAllLdh _ _) _ _ _ 3 0 (ap bytesOutcome (c .bytes-error3 .ensures))
-    (check-passes _ _ (p .before .before .check-text .ensures) _ (p .enum-told .given .1) ∙ pass-given 6 0 _ _ _ (h .text-all-ldh .ensures) (c .before .before .if1 .left)
+    refusal-leaves (encodeOutcome isHostLabel _ _) _ _ _ 3 0 (ap bytesOutcome (c .bytes-error3 .ensures))
+    (check-passes _ _ (p .before .before .check-text .ensures) _ (p .enum-told .given .1) ∙ pass-given 6 0 _ _ _ (h .text-is-host-label .ensures) (c .before .before .if1 .left)
     ∙ stop-below 3 0 _ 63 _ (text-long (p .before .before .before .before .before .args .text .now) (omega (arith, c .before .if2 .taken))))
 
 -- after the call of the converter
-converted : (u : lts.After-to-units (check-text-reads.Asked, check-text-reads.Learnt, bytes-error-reads.Asked, bytes-error-reads.Learnt, text-all-ldh-reads.Asked, text-all-ldh-reads.Learnt, to-units-reads.Asked, to-units-reads.Learnt, encode-units-reads.Asked, encode-units-reads.Learnt) reads.Pre reads.Post)
+converted : (u : lts.After-to-units (check-text-reads.Asked, check-text-reads.Learnt, bytes-error-reads.Asked, bytes-error-reads.Learnt, text-is-host-label-reads.Asked, text-is-host-label-reads.Learnt, to-units-reads.Asked, to-units-reads.Learnt, encode-units-reads.Asked, encode-units-reads.Learnt) reads.Pre reads.Post)
     → Converted (u .before .before .before .before .before .before .before .before .before .before .args .text .now) (unitsOutcome (u .to-units .result)) (u .to-units .last .1 .1 .0)
 converted u =
     let f = u .before .before in
@@ -80,8 +80,8 @@ returns-5 c =
     let h = f .before .before in
     let p = h .before in
     let us = units-are (converted u) (ap unitsOutcome (a .answer2 .given .1)) in
-    handed-leaves (encodeOutcome isAllLdh _ _) _ _ _ _ _ _
-    (check-passes _ _ (p .before .before .check-text .ensures) _ (p .enum-told .given .1) ∙ pass-given _ _ _ _ _ (h .text-all-ldh .ensures) (f .before .if1 .left)
+    handed-leaves (encodeOutcome isHostLabel _ _) _ _ _ _ _ _
+    (check-passes _ _ (p .before .before .check-text .ensures) _ (p .enum-told .given .1) ∙ pass-given _ _ _ _ _ (h .text-is-host-label .ensures) (f .before .if1 .left)
     ∙ by-units _ _ us)
     (label-is _ _ us) (c .before .before .encode-units .ensures)
 

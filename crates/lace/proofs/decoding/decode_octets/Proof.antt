@@ -8,7 +8,7 @@ use Rattle.basis.proofs.Outcome.{stop-if, pass-if, stop-given, pass-given, refu
 use Rattle.utf16.specs.Units.{toPoints}
 use Rattle.utf16.specs.Answer.{pointsOutcome}
 use Rattle.lace.specs.Internal.{octetsOutcome}
-use Rattle.lace.proofs.DecodeLaws.{units-front, units-within, some-unpaired, none-unpaired, ldh-is, points-done}
+use Rattle.lace.proofs.DecodeLaws.{units-front, units-within, some-unpaired, none-unpaired, host-label-is, points-done}
 use Rattle.lace.proofs.decoding.decode_octets.Statement.{statement}
 use Rattle.lace.proofs.decoding.decode_octets.Tie as tie
 
@@ -53,7 +53,7 @@ returns-3 c =
     refusal-leaves (octetsOutcome _) _ _ _ 6 0 (ap pointsOutcome (c .points-error3 .ensures))
     (pass-given 9 0 _ _ _ (ap not (s .stand-for-units .ensures)) (e .before .if1 .left)
     ∙ pass-if 9 0 _ _ (none-unpaired _ _ _ _ p _ (u .first-unpaired .ensures) (omega (arith, e .if2 .left)))
-    ∙ stop-given 6 0 _ _ _ (ldh-is _ _ _ _ p _ (d .units-all-ldh .ensures)) (c .before .if3 .taken))
+    ∙ stop-given 6 0 _ _ _ (host-label-is _ _ _ _ p _ (d .units-are-host-label .ensures)) (c .before .if3 .taken))
 
 returns-4 : tie.Need-returns-4
 unfolding octetsOutcome
@@ -68,7 +68,7 @@ returns-4 c =
     handed-leaves (octetsOutcome _) _ _ _ _ _ _
     (pass-given 9 0 _ _ _ (ap not (s .stand-for-units .ensures)) (e .before .if1 .left)
     ∙ pass-if 9 0 _ _ (none-unpaired _ _ _ _ p _ (u .first-unpaired .ensures) (omega (arith, e .if2 .left)))
-    ∙ pass-given 6 0 _ _ _ (ldh-is _ _ _ _ p _ (d .units-all-ldh .ensures)) (l .if3 .left)
+    ∙ pass-given 6 0 _ _ _ (host-label-is _ _ _ _ p _ (d .units-are-host-label .ensures)) (l .if3 .left)
     ∙ sym (points-done _ _ _ _ p _ (u .first-unpaired .ensures) (omega (arith, e .if2 .left)) _ (s .before .before .before .before .before .before .before .pre)))
     (ap toPoints (sym (units-front _ _ _ _ p))) (t .to-points .ensures)
 
