@@ -4,3 +4,4 @@ pub mod Interface
 pub mod Demand1
 pub mod Demands
 pub mod KnownLabels
+pub mod Shortest

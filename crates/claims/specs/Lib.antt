@@ -1,4 +1,5 @@
--- The demands as named statements, and the table of known labels.
+-- The demands as named statements, the table of known labels, and that LACE is as short as it may be.
 pub mod Demand1
 pub mod Demands
 pub mod KnownLabels
+pub mod Shortest
