@@ -1,8 +1,9 @@
 //! The same calls of two implementations, with every element of the memory
 //! around compared.
 
-use crate::functions::{store, Function, Implementation, Numbers};
-use crate::generate::calls::{self, Call};
+use crate::functions::{store, Function, Implementation, Numbers, TableWrite};
+use crate::generate::calls::{self, Call, Row};
+use crate::generate::lists::List;
 use crate::generate::Source;
 use std::collections::BTreeMap;
 use std::fmt;
@@ -38,6 +39,12 @@ impl Element for u32 {
 impl Element for u64 {
     fn of(number: u64) -> u64 {
         number
+    }
+}
+
+impl Element for usize {
+    fn of(number: u64) -> usize {
+        number as usize
     }
 }
 
@@ -78,57 +85,138 @@ impl<T: Element> fmt::Display for Guarded<T> {
     }
 }
 
-/// The memory of a call: the row given, the buffer, the answer row.
+/// A function that is compared: what is given to it, the memory of that, and
+/// how it is called.
+trait Compared: Copy {
+    /// What the generator makes.
+    type Given;
+    /// The same, each row with its guards.
+    type Rows: Clone + PartialEq + fmt::Display;
+    /// What the buffer is made of.
+    type Filled: Element;
+
+    fn rows(source: &mut Source, given: &Self::Given) -> Self::Rows;
+
+    fn call(self, rows: &Self::Rows, buffer: &mut [Self::Filled], answer: &mut [u64]);
+}
+
+/// One row that is given, and the number beside it.
 #[derive(Clone, PartialEq)]
-struct Memory<G, B> {
-    given: Guarded<G>,
+struct GuardedRow<G> {
+    row: Guarded<G>,
+    number: usize,
+}
+
+impl<G: Element> fmt::Display for GuardedRow<G> {
+    fn fmt(&self, out: &mut fmt::Formatter) -> fmt::Result {
+        write!(out, "\n    number {}\n    given {}", self.number, self.row)
+    }
+}
+
+impl<G: Element, B: Element> Compared for Function<G, B> {
+    type Given = Row<G>;
+    type Rows = GuardedRow<G>;
+    type Filled = B;
+
+    fn rows(source: &mut Source, given: &Row<G>) -> GuardedRow<G> {
+        GuardedRow { row: Guarded::holding(source, &given.elements), number: given.number }
+    }
+
+    fn call(self, rows: &GuardedRow<G>, buffer: &mut [B], answer: &mut [u64]) {
+        self(rows.row.row(), rows.number, buffer, answer);
+    }
+}
+
+/// The four rows of a list.
+#[derive(Clone, PartialEq)]
+struct GuardedList {
+    readers: Guarded<u16>,
+    schemes: Guarded<u32>,
+    lengths: Guarded<usize>,
+    points: Guarded<u32>,
+}
+
+impl fmt::Display for GuardedList {
+    fn fmt(&self, out: &mut fmt::Formatter) -> fmt::Result {
+        write!(out, "\n    readers{}\n    schemes{}", self.readers, self.schemes)?;
+        write!(out, "\n    lengths{}\n    points {}", self.lengths, self.points)
+    }
+}
+
+impl Compared for TableWrite {
+    type Given = List;
+    type Rows = GuardedList;
+    type Filled = u8;
+
+    fn rows(source: &mut Source, given: &List) -> GuardedList {
+        GuardedList {
+            readers: Guarded::holding(source, &given.readers),
+            schemes: Guarded::holding(source, &given.schemes),
+            lengths: Guarded::holding(source, &given.lengths),
+            points: Guarded::holding(source, &given.points),
+        }
+    }
+
+    fn call(self, rows: &GuardedList, buffer: &mut [u8], answer: &mut [u64]) {
+        let GuardedList { readers, schemes, lengths, points } = rows;
+        self(readers.row(), schemes.row(), lengths.row(), points.row(), buffer, answer);
+    }
+}
+
+/// The memory of a call: what is given, the buffer, the answer row.
+#[derive(Clone, PartialEq)]
+struct Memory<R, B> {
+    given: R,
     buffer: Guarded<B>,
     answer: Guarded<u64>,
 }
 
-impl<G: Element, B: Element> Memory<G, B> {
+impl<R, B: Element> Memory<R, B> {
     /// The memory before a call.
-    fn before(source: &mut Source, call: &Call<G>) -> Memory<G, B> {
+    fn before<F>(source: &mut Source, call: &Call<F::Given>) -> Memory<R, B>
+    where
+        F: Compared<Rows = R, Filled = B>,
+    {
         Memory {
-            given: Guarded::holding(source, &call.given),
+            given: F::rows(source, &call.given),
             buffer: Guarded::filled(source, call.capacity),
             answer: Guarded::filled(source, call.answer),
         }
     }
 
     /// Makes a call.
-    fn call(&mut self, function: Function<G, B>, number: usize) {
-        function(self.given.row(), number, self.buffer.row_mut(), self.answer.row_mut());
+    fn call(&mut self, function: impl Compared<Rows = R, Filled = B>) {
+        function.call(&self.given, self.buffer.row_mut(), self.answer.row_mut());
     }
 
     /// Makes a call with a row of its own for the five numbers, and stores them in
     /// the answer row if that is long enough.
-    fn call_and_store(&mut self, function: Function<G, B>, number: usize) -> Numbers {
+    fn call_and_store(&mut self, function: impl Compared<Rows = R, Filled = B>) -> Numbers {
         let mut numbers = [0; 5];
-        function(self.given.row(), number, self.buffer.row_mut(), &mut numbers);
+        function.call(&self.given, self.buffer.row_mut(), &mut numbers);
         store(numbers, self.answer.row_mut());
         numbers
     }
 }
 
-impl<G: Element, B: Element> fmt::Display for Memory<G, B> {
+impl<R: fmt::Display, B: Element> fmt::Display for Memory<R, B> {
     fn fmt(&self, out: &mut fmt::Formatter) -> fmt::Result {
-        write!(out, "\n    given {}\n    buffer{}", self.given, self.buffer)?;
+        write!(out, "{}\n    buffer{}", self.given, self.buffer)?;
         write!(out, "\n    answer{}", self.answer)
     }
 }
 
 /// A function under its name in two implementations, the calls that are made of
 /// it, and the codes that it can answer with.
-struct Pair<G, B> {
+struct Pair<F: Compared> {
     name: &'static str,
     codes: &'static [u64],
-    call: fn(&mut Source) -> Call<G>,
+    call: fn(&mut Source) -> Call<F::Given>,
     implementations: [&'static str; 2],
-    functions: [Function<G, B>; 2],
+    functions: [F; 2],
 }
 
-impl<G: Element, B: Element> Pair<G, B> {
+impl<F: Compared> Pair<F> {
     /// Makes a call of both functions, and again with room for the five numbers
     /// if the answer row was too short to show them.
     fn compared(&self, source: &mut Source) -> Result<Numbers, String> {
@@ -142,11 +230,11 @@ impl<G: Element, B: Element> Pair<G, B> {
 
     /// Makes a call of both functions. Answers the five numbers, or says how the
     /// two differ or what they changed and must not.
-    fn called(&self, source: &mut Source, call: &Call<G>) -> Result<Numbers, String> {
-        let before = Memory::before(source, call);
+    fn called(&self, source: &mut Source, call: &Call<F::Given>) -> Result<Numbers, String> {
+        let before = Memory::before::<F>(source, call);
         let [mut one, mut other] = [before.clone(), before.clone()];
-        let numbers = one.call_and_store(self.functions[0], call.number);
-        other.call(self.functions[1], call.number);
+        let numbers = one.call_and_store(self.functions[0]);
+        other.call(self.functions[1]);
         // The memory is looked at as it is, whatever a row that was only given lets one infer.
         let [one, other] = black_box([one, other]);
         let mut must = Memory { answer: one.answer.clone(), ..before.clone() };
@@ -156,9 +244,8 @@ impl<G: Element, B: Element> Pair<G, B> {
             return Ok(numbers);
         }
         let [one_name, other_name] = self.implementations;
-        let number = call.number;
         Err(format!(
-            "number {number}, {GUARD} elements on each side of a row\n  before{before}\n  \
+            "{GUARD} elements on each side of a row\n  before{before}\n  \
              {one_name}: {numbers:?}{one}\n  {other_name}{other}"
         ))
     }
@@ -231,7 +318,7 @@ macro_rules! comparison {
 
 /// The functions that are compared, each with the calls that are made of it and
 /// with all the codes that it can answer with.
-pub const COMPARISONS: [(&str, Comparison); 11] = [
+pub const COMPARISONS: [(&str, Comparison); 12] = [
     comparison!(to_units, to_units, [1, 4]),
     comparison!(to_points, to_points, [1, 10]),
     comparison!(altdude_encode, encode, [1, 2, 3, 4, 5]),
@@ -241,6 +328,7 @@ pub const COMPARISONS: [(&str, Comparison); 11] = [
     comparison!(table_read, table_read, [5, 6, 7, 8, 9, 13, 14]),
     comparison!(table_entry, table_entry, [1, 5, 6, 7, 8, 9, 13, 14]),
     comparison!(table_judged_entry, table_entry, [1, 5, 6, 7, 8, 9, 13, 14]),
+    comparison!(table_write, table_write, [1, 2, 3, 4, 5, 6, 14]),
     comparison!(write, write, [1, 2, 3, 5, 6, 10, 11, 12]),
     comparison!(read, read, [1, 2, 3, 5, 6, 7, 8, 9, 11]),
 ];

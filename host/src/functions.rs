@@ -16,6 +16,11 @@ pub type Numbers = [u64; 5];
 /// which the five numbers of the answer are stored.
 pub type Function<G, B> = fn(&[G], usize, &mut [B], &mut [u64]);
 
+/// The function that writes a table: rows of reader numbers, scheme numbers,
+/// lengths of texts and the points of all texts, the buffer to fill, and the row
+/// of the five numbers.
+pub type TableWrite = fn(&[u16], &[u32], &[usize], &[u32], &mut [u8], &mut [u64]);
+
 /// The functions of an implementation, and what it is called. Reading a table
 /// fills no buffer.
 #[derive(Clone, Copy)]
@@ -30,6 +35,7 @@ pub struct Implementation {
     pub table_read: Function<u8, u8>,
     pub table_entry: Function<u8, u32>,
     pub table_judged_entry: Function<u8, u32>,
+    pub table_write: TableWrite,
     pub write: Function<u8, u8>,
     pub read: Function<u8, u8>,
 }
@@ -73,6 +79,9 @@ pub const INDEPENDENT: Implementation = Implementation {
     },
     table_judged_entry: |table, index, text, answer| {
         store(entry_numbers(nametable::judged_entry(table, index, text)), answer);
+    },
+    table_write: |readers, schemes, lengths, points, table, answer| {
+        store(numbers(nametable::write(readers, schemes, lengths, points, table)), answer);
     },
     write: |text, scheme, label, answer| {
         store(interface_numbers(c_interface::write(scheme as u32, text, label)), answer);

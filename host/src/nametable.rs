@@ -1,4 +1,5 @@
-//! The name table (01's book of names): reading it, and one entry by index.
+//! The name table (01's book of names): reading it, one entry by index, and
+//! writing it (02) from a list.
 
 use crate::error::{error, error_at, Error, ErrorCode};
 use crate::point::LABEL_MAX;
@@ -68,6 +69,68 @@ pub fn judged_entry(table: &[u8], index: usize, out: &mut [u32]) -> Result<Entry
         Ok(_) => read_entry(entry, index, out),
         Err(code) => error_at(code, index),
     }
+}
+
+/// Writes the table of a list and answers its number of bytes. An entry has one
+/// of the readers, one of the schemes, and as many of the points as its length
+/// says. Order: 1; 14 at 0 for rows that do not agree; then entry by entry, at its
+/// index, 14 for a reader number that does not rise, and what `new_entry` says.
+pub fn write(
+    readers: &[u16],
+    schemes: &[u32],
+    lengths: &[usize],
+    points: &[u32],
+    out: &mut [u8],
+) -> Result<usize, Error> {
+    let entries = readers.len();
+    if (out.len() as u128) < HEADER_LENGTH as u128 + ENTRY_LENGTH as u128 * entries as u128 {
+        return error(ErrorCode::Capacity);
+    }
+    if !rows_agree(entries, schemes, lengths, points) {
+        return error(ErrorCode::Malformed);
+    }
+    let mut table = vec![HEADER_KIND];
+    table.extend((entries as u16).to_be_bytes());
+    let mut rest = points;
+    for index in 0..entries {
+        let (text, later) = rest.split_at(lengths[index]);
+        rest = later;
+        if index > 0 && readers[index] <= readers[index - 1] {
+            return error_at(ErrorCode::Malformed, index);
+        }
+        match new_entry(readers[index], schemes[index], text) {
+            Ok(entry) => table.extend(entry),
+            Err(code) => return error_at(code, index),
+        }
+    }
+    out[..table.len()].copy_from_slice(&table);
+    Ok(table.len())
+}
+
+/// Whether the rows have so many entries each, 1 to 500, and the texts all points
+/// between them.
+fn rows_agree(entries: usize, schemes: &[u32], lengths: &[usize], points: &[u32]) -> bool {
+    let announced: u128 = lengths.iter().map(|&length| length as u128).sum();
+    let lawful_count = entries > 0 && entries <= ENTRIES_MAX;
+    let as_long = schemes.len() == entries && lengths.len() == entries;
+    lawful_count && as_long && announced == points.len() as u128
+}
+
+/// The bytes of a new entry: 14 for an unknown scheme, and the default's number
+/// 0 is one; then the label's own refusal.
+fn new_entry(reader: u16, scheme: u32, text: &[u32]) -> Result<[u8; ENTRY_LENGTH], ErrorCode> {
+    let scheme = match scheme {
+        0 => return Err(ErrorCode::Malformed),
+        number => Scheme::of_number(number).ok_or(ErrorCode::Malformed)?,
+    };
+    let mut label = [0; LABEL_MAX];
+    let length = scheme.encode(text, &mut label).map_err(|error| error.code)?;
+    let mut entry = [0; ENTRY_LENGTH];
+    entry[0] = scheme.kind();
+    entry[1..3].copy_from_slice(&reader.to_be_bytes());
+    entry[3] = length as u8;
+    entry[4..4 + length].copy_from_slice(&label[..length]);
+    Ok(entry)
 }
 
 /// Reads an entry that was checked, so that its kind is known and its label is

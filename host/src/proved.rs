@@ -74,6 +74,20 @@ extern "C" {
         answer: *mut u64,
         answer_len: usize,
     );
+    fn test_table_write(
+        readers: *const u16,
+        readers_len: usize,
+        schemes: *const u32,
+        schemes_len: usize,
+        lengths: *const usize,
+        lengths_len: usize,
+        points: *const u32,
+        points_len: usize,
+        table: *mut u8,
+        table_len: usize,
+        answer: *mut u64,
+        answer_len: usize,
+    );
 }
 
 // libfirmware.a, declared in include/distelhut.h
@@ -109,12 +123,11 @@ pub fn read(scheme: u32, label: &[u8], text: &mut [u8]) -> u32 {
 /// Calls an exported function on slices and numbers; each slice is passed as a
 /// pointer and a length.
 macro_rules! call {
-    ($function:ident, $given:ident, [$($number:ident)?], [$($buffer:ident),*]) => {
+    ($function:ident, [$($given:ident),*], [$($number:ident)?], [$($buffer:ident),*]) => {
         // SAFETY: slices are never null, never overlap, and are as long as they say.
         unsafe {
             $function(
-                $given.as_ptr(),
-                $given.len(),
+                $($given.as_ptr(), $given.len(),)*
                 $($number,)?
                 $($buffer.as_mut_ptr(), $buffer.len()),*
             )
@@ -125,20 +138,29 @@ macro_rules! call {
 /// The proved library.
 pub const PROVED: Implementation = Implementation {
     name: "proved",
-    to_units: |points, count, units, answer| call!(test_to_units, points, [count], [units, answer]),
-    to_points: |units, count, points, answer| {
-        call!(test_to_points, units, [count], [points, answer])
+    to_units: |points, count, units, answer| {
+        call!(test_to_units, [points], [count], [units, answer])
     },
-    altdude_encode: |text, _, label, answer| call!(test_altdude_encode, text, [], [label, answer]),
-    altdude_decode: |label, _, text, answer| call!(test_altdude_decode, label, [], [text, answer]),
-    lace_encode: |text, _, label, answer| call!(test_lace_encode, text, [], [label, answer]),
-    lace_decode: |label, _, text, answer| call!(test_lace_decode, label, [], [text, answer]),
-    table_read: |table, _, _, answer| call!(test_table_read, table, [], [answer]),
+    to_points: |units, count, points, answer| {
+        call!(test_to_points, [units], [count], [points, answer])
+    },
+    altdude_encode: |text, _, label, answer| {
+        call!(test_altdude_encode, [text], [], [label, answer])
+    },
+    altdude_decode: |label, _, text, answer| {
+        call!(test_altdude_decode, [label], [], [text, answer])
+    },
+    lace_encode: |text, _, label, answer| call!(test_lace_encode, [text], [], [label, answer]),
+    lace_decode: |label, _, text, answer| call!(test_lace_decode, [label], [], [text, answer]),
+    table_read: |table, _, _, answer| call!(test_table_read, [table], [], [answer]),
     table_entry: |table, index, text, answer| {
-        call!(test_table_entry, table, [index], [text, answer])
+        call!(test_table_entry, [table], [index], [text, answer])
     },
     table_judged_entry: |table, index, text, answer| {
-        call!(test_table_judged_entry, table, [index], [text, answer])
+        call!(test_table_judged_entry, [table], [index], [text, answer])
+    },
+    table_write: |readers, schemes, lengths, points, table, answer| {
+        call!(test_table_write, [readers, schemes, lengths, points], [], [table, answer])
     },
     write: |text, scheme, label, answer| {
         store(interface_numbers(write(scheme as u32, text, label)), answer);

@@ -5,7 +5,8 @@
 mod shared;
 
 use distelhut_host::functions::{implementations, Implementation};
-use distelhut_host::generate::{calls, Source};
+use distelhut_host::generate::calls::{self, Row};
+use distelhut_host::generate::Source;
 use distelhut_host::papers::{known, Known, Says, SLIPS};
 use distelhut_host::scheme::Scheme;
 use distelhut_host::utf16::units_of;
@@ -193,8 +194,9 @@ fn what_is_written_is_read_back() {
         let mut source = Source::new(5);
         for _ in 0..20_000 {
             let call = calls::write(&mut source);
-            if let Ok(label) = written(&one, call.number, &call.given, call.capacity) {
-                assert_eq!(read(&one, call.number, &label, 252), Ok(call.given));
+            let Row { elements: text, number: scheme } = call.given;
+            if let Ok(label) = written(&one, scheme, &text, call.capacity) {
+                assert_eq!(read(&one, scheme, &label, 252), Ok(text));
             }
         }
     }

@@ -342,6 +342,97 @@ fn errors_of_table_judged_entry() {
 }
 
 #[test]
+fn errors_of_table_write() {
+    found(
+        "table_write",
+        &[
+            // a buffer that is one byte short is enough
+            Implementation {
+                table_write: |readers, schemes, lengths, points, table, answer| {
+                    let function = INDEPENDENT.table_write;
+                    let mut longer = [&*table, &[0]].concat();
+                    function(readers, schemes, lengths, points, &mut longer, answer);
+                    table.copy_from_slice(&longer[..table.len()]);
+                },
+                ..INDEPENDENT
+            },
+            // the lengths are added modulo 2^64
+            Implementation {
+                table_write: |readers, schemes, lengths, points, table, answer| {
+                    let sum = lengths.iter().fold(0usize, |sum, &length| sum.wrapping_add(length));
+                    let mut left = points.len();
+                    let cut = |&length: &usize| {
+                        let taken = left.min(length);
+                        left -= taken;
+                        taken
+                    };
+                    let cut: Vec<usize> = lengths.iter().map(cut).collect();
+                    let lengths = if sum == points.len() { &cut } else { lengths };
+                    (INDEPENDENT.table_write)(readers, schemes, lengths, points, table, answer);
+                },
+                ..INDEPENDENT
+            },
+            // the reader numbers are looked at last
+            Implementation {
+                table_write: |readers, schemes, lengths, points, table, answer| {
+                    let function = INDEPENDENT.table_write;
+                    let rising: Vec<u16> = (0..readers.len()).map(|index| index as u16).collect();
+                    let (mut other, mut five) = (table.to_vec(), [0; 5]);
+                    function(&rising, schemes, lengths, points, &mut other, &mut five);
+                    let readers = if five[0] == 0 { readers } else { &rising };
+                    function(readers, schemes, lengths, points, table, answer);
+                },
+                ..INDEPENDENT
+            },
+            // 0 is the default scheme
+            Implementation {
+                table_write: |readers, schemes, lengths, points, table, answer| {
+                    let schemes: Vec<u32> = schemes.iter().map(|&scheme| scheme.max(1)).collect();
+                    (INDEPENDENT.table_write)(readers, &schemes, lengths, points, table, answer);
+                },
+                ..INDEPENDENT
+            },
+            // only the last byte of a scheme number is looked at
+            Implementation {
+                table_write: |readers, schemes, lengths, points, table, answer| {
+                    let schemes: Vec<u32> = schemes.iter().map(|scheme| scheme % 256).collect();
+                    (INDEPENDENT.table_write)(readers, &schemes, lengths, points, table, answer);
+                },
+                ..INDEPENDENT
+            },
+            // the first entry is stored before the others are judged
+            Implementation {
+                table_write: |readers, schemes, lengths, points, table, answer| {
+                    let function = INDEPENDENT.table_write;
+                    let mut five = [0; 5];
+                    function(readers, schemes, lengths, points, table, &mut five);
+                    function(readers, schemes, lengths, points, table, answer);
+                    if five[1] > 0 {
+                        table[3] = if schemes[0] == 1 { 0x41 } else { 0x4C };
+                    }
+                },
+                ..INDEPENDENT
+            },
+            // the bytes after a label are left as they were
+            Implementation {
+                table_write: |readers, schemes, lengths, points, table, answer| {
+                    let before = table.to_vec();
+                    let mut five = [0; 5];
+                    let function = INDEPENDENT.table_write;
+                    function(readers, schemes, lengths, points, table, &mut five);
+                    function(readers, schemes, lengths, points, table, answer);
+                    for start in (3..five[2] as usize).step_by(67) {
+                        let filling = start + 4 + usize::from(table[start + 3])..start + 67;
+                        table[filling.clone()].copy_from_slice(&before[filling]);
+                    }
+                },
+                ..INDEPENDENT
+            },
+        ],
+    );
+}
+
+#[test]
 fn errors_of_write() {
     found(
         "write",

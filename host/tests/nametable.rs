@@ -9,12 +9,13 @@ use shared::{called, numbers, Error};
 
 /// The number of entries, or the error.
 fn verdict(one: &Implementation, table: &[u8]) -> Result<u64, Error> {
-    numbers(one.table_read, table, 0, &mut []).map(|five| five[2])
+    numbers(|five| (one.table_read)(table, 0, &mut [], five)).map(|five| five[2])
 }
 
 /// The reader number, the scheme number and the points of an entry, or the error.
 fn entry(one: &Implementation, table: &[u8], index: usize) -> Result<(u64, u64, Vec<u32>), Error> {
-    let [_, _, _, reader, scheme] = numbers(one.table_entry, table, index, &mut [0; 63])?;
+    let call = |five: &mut [u64]| (one.table_entry)(table, index, &mut [0; 63], five);
+    let [_, _, _, reader, scheme] = numbers(call)?;
     Ok((reader, scheme, called(one.table_entry, table, index, 63)?))
 }
 
@@ -25,9 +26,9 @@ fn judged_entry(
     table: &[u8],
     index: usize,
 ) -> Result<(u64, u64, Vec<u32>), Error> {
-    let function = one.table_judged_entry;
-    let [_, _, _, reader, scheme] = numbers(function, table, index, &mut [0; 63])?;
-    Ok((reader, scheme, called(function, table, index, 63)?))
+    let call = |five: &mut [u64]| (one.table_judged_entry)(table, index, &mut [0; 63], five);
+    let [_, _, _, reader, scheme] = numbers(call)?;
+    Ok((reader, scheme, called(one.table_judged_entry, table, index, 63)?))
 }
 
 fn changed(changes: &[(usize, u8)]) -> Vec<u8> {

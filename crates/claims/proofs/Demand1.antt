@@ -45,16 +45,18 @@ use Rattle.labels.specs.Tests.{textTests, labelTests}
 use Rattle.scheme.specs.Coding as scheme
 use Rattle.nametable.specs.Format.{headerLength, entryLength, labelCapacity, countOf, tableLength, entryAt, kindOf, readerOf, lengthOf, labelIn, schemeIn}
 use Rattle.nametable.specs.Answer.{headerTests, lengthTests, formTests, entryJudged, entriesJudged, readOutcome, entryText, findOutcome, entryRead, judgedEntryOutcome}
+use Rattle.nametable.specs.Writing as writing
 use Rattle.nametable.proofs.TableLaws.{cut-table, find-refused, judged-as-found}
-use Rattle.nametable_facts.proofs.Settled.{read-settled, find-settled, judged-entry-settled}
+use Rattle.nametable_facts.proofs.Settled.{read-settled, find-settled, judged-entry-settled, write-settled}
 use Rattle.nametable_facts.proofs.Truncation.{prefix-truncated}
 use Rattle.nametable_facts.proofs.Whole.{label-long, entry-counts, judged-entry-counts}
+use Rattle.nametable_facts.proofs.ReadBack.{written-counts}
 use Rattle.firmware.specs.Answer.{answerOf, writeBy, writeOutcome, writtenLabel, readBy, readText}
 use Rattle.firmware.specs.Answer as firmware
 use Rattle.firmware.proofs.Counts.{write-few, read-few}
 use Rattle.report.specs.Lines.{listLine, pointsLine, refusedAtLine, refusedLine}
 use Rattle.report.specs.Answer.{lineOutcome}
-use Rattle.claims.specs.Demand1.{isOneOf, Listed, Answers, Tells, encodeCodes, decodeCodes, tableCodes, writeCodes, readCodes, Cut, Demand1}
+use Rattle.claims.specs.Demand1.{isOneOf, Listed, Answers, Tells, encodeCodes, decodeCodes, tableCodes, tableWriteCodes, writeCodes, readCodes, Cut, Demand1}
 use Rattle.claims.proofs.Interface.{written-some, read-some}
 
 -- a chain of tests: each that holds has a listed number
@@ -306,6 +308,27 @@ table-judged-entry t index text =
       counts = judged-entry-counts t index (length text);
     })
 
+-- a list that is written
+text-listed : (s : Scheme) (t : List ℕ) → Listed tableWriteCodes (scheme.encodeOutcome s 63 t)
+unfolding tableWriteCodes isOneOf
+text-listed Altdude t = altdude-encoded _ 63 t refl refl refl (λ _. refl) refl .listed
+text-listed Lace t = lace-encoded _ 63 t refl refl refl (λ _. refl) refl .listed
+
+entries-write-listed : (index least : ℕ) (es : List writing.Entry) (total : ℕ) → Listed tableWriteCodes (writing.entriesWritten index least es total)
+unfolding writing.entriesWritten writing.entryWritten tableWriteCodes isOneOf
+entries-write-listed index least [] total = listed-done total
+entries-write-listed index least (writing.entry reader number text ∷ es) total =
+    then-listed _ _ _ (listed-if _ _ _ refl (λ _. listed-if _ _ _ refl (λ _. text-listed (writing.schemeOf number) text))) (entries-write-listed (suc index) _ es total)
+
+table-write : (readers schemes lengths points table : List ℕ)
+    → Answers tableWriteCodes (writing.writeOutcome (length table) readers schemes lengths points) (writing.tableOf (writing.entriesOf readers schemes lengths points)) table
+unfolding writing.writeOutcome writing.listTests tableWriteCodes isOneOf
+table-write readers schemes lengths points table =
+    answers _ (record {
+      listed = listed-if _ _ _ refl (λ _. listed-if _ _ _ refl (λ _. listed-if _ _ _ refl (λ _. listed-if _ _ _ refl (λ _. listed-if _ _ _ refl (λ _. entries-write-listed 0 0 _ _)))));
+      counts = λ n e. written-counts (length table) readers schemes lengths points e;
+    })
+
 -- lines
 put-line : (line out : List ℕ) → Answers (1 ∷ []) (lineOutcome line (length out)) line out
 unfolding lineOutcome isOneOf
@@ -400,14 +423,17 @@ demand1 = record {
   tableRead = table-read;
   tableEntry = table-entry;
   tableJudgedEntry = table-judged-entry;
+  tableWrite = table-write;
   tableReadOrder = read-settled;
   tableEntryOrder = find-settled;
   tableJudgedEntryOrder = judged-entry-settled;
+  tableWriteOrder = write-settled;
   tableJudgedEntryAgrees = λ t n index capacity read. judged-as-found t n read index capacity;
   unknownKinds = λ e. (
     λ u. let altdude : kindOf e ≡ 0x41 → ⊥ = u Altdude in let lace : kindOf e ≡ 0x4c → ⊥ = u Lace in (λ k. omega arith, λ k. omega arith),
     λ d. by-scheme (λ s. kindOf e ≡ naming.kindOf s → ⊥) (d .0) (d .1),
   );
+  unknownSchemes = λ number. (λ u. (u Altdude, u Lace), λ d. by-scheme (λ s. number ≡ naming.numberOf s → ⊥) (d .0) (d .1));
   write = firmware-write;
   writeTells = λ number capacity text. tells _ _ (omega arith) (written-some number capacity text) (omega (arith, write-few number capacity text));
   read = firmware-read;

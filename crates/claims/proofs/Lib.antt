@@ -3,5 +3,6 @@ pub mod CodecDemands
 pub mod Interface
 pub mod Demand1
 pub mod Demands
+pub mod Written
 pub mod KnownLabels
 pub mod Shortest

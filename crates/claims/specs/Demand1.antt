@@ -34,7 +34,8 @@ use Rattle.scheme.specs.declared.Scheme.the-variants.{Altdude, Lace}
 use Rattle.scheme.specs.Coding as scheme
 use Rattle.nametable.specs.Format as nametable
 use Rattle.nametable.specs.Answer.{readOutcome, findOutcome, judgedEntryOutcome, entryText}
-use Rattle.nametable_facts.specs.Causes.{UnknownKind, tableCauses, findCauses, judgedEntryCauses}
+use Rattle.nametable.specs.Writing as writing
+use Rattle.nametable_facts.specs.Causes.{UnknownKind, UnknownScheme, tableCauses, findCauses, judgedEntryCauses, writeCauses}
 use Rattle.firmware.specs.Answer.{answerOf, writeOutcome, writtenLabel, readText}
 use Rattle.firmware.specs.Answer as firmware
 use Rattle.firmware.specs.Causes.{UnknownNumber}
@@ -80,6 +81,10 @@ decodeCodes Lace = 1 ∷ 2 ∷ 3 ∷ 8 ∷ 7 ∷ 9 ∷ 6 ∷ []
 -- of a table: its own, and those of a label of 1 to 63 bytes
 unfoldable pub tableCodes : List ℕ
 tableCodes = 13 ∷ 14 ∷ 7 ∷ 5 ∷ 8 ∷ 9 ∷ 6 ∷ []
+
+-- of writing a table: its own, and those of a text
+unfoldable pub tableWriteCodes : List ℕ
+tableWriteCodes = 1 ∷ 14 ∷ 2 ∷ 4 ∷ 5 ∷ 6 ∷ 3 ∷ []
 
 -- of the C interface: 4 can't come, since paired units make points
 unfoldable pub writeCodes : List ℕ
@@ -155,6 +160,8 @@ pub record Demand1 : Type 0 where
       → Answers (1 ∷ tableCodes) (findOutcome table index (length text)) (entryText table index) text
   pub tableJudgedEntry : (table : List ℕ) (index : ℕ) (text : List ℕ)
       → Answers (1 ∷ tableCodes) (judgedEntryOutcome table index (length text)) (entryText table index) text
+  pub tableWrite : (readers schemes lengths points table : List ℕ)
+      → Answers tableWriteCodes (writing.writeOutcome (length table) readers schemes lengths points) (writing.tableOf (writing.entriesOf readers schemes lengths points)) table
   -- its order: the header's, then entry by entry, and for one entry 1 before and the index after
   pub tableReadOrder : (table : List ℕ) → Settles (tableCauses table) (nametable.countOf table) (readOutcome table)
   pub tableEntryOrder : (table : List ℕ) (index capacity : ℕ)
@@ -162,11 +169,16 @@ pub record Demand1 : Type 0 where
   -- of a table that was judged: 1, the header, the index, the length, then the entry's own
   pub tableJudgedEntryOrder : (table : List ℕ) (index capacity : ℕ)
       → Settles (judgedEntryCauses table index capacity) (length (entryText table index)) (judgedEntryOutcome table index capacity)
-  -- which answers as `entry` does if the table reads whole
+  -- of a list that is written: 1, the rows, then entry by entry
+  pub tableWriteOrder : (capacity : ℕ) (readers schemes lengths points : List ℕ)
+      → Settles (writeCauses capacity readers schemes lengths points) (nametable.tableLength (length readers)) (writing.writeOutcome capacity readers schemes lengths points)
+  -- `judged_entry` answers as `entry` does if the table reads whole
   pub tableJudgedEntryAgrees : (table : List ℕ) (count index capacity : ℕ) → readOutcome table ≡ done count
       → judgedEntryOutcome table index capacity ≡ findOutcome table index capacity
   -- the kind of an entry is no scheme's exactly if it is neither 41 nor 4C hex
   pub unknownKinds : (entry : List ℕ) → UnknownKind entry ↔ ((nametable.kindOf entry ≡ 0x41 → ⊥) × (nametable.kindOf entry ≡ 0x4c → ⊥))
+  -- the number of an entry's scheme is no scheme's exactly if it is neither 1 nor 2
+  pub unknownSchemes : (number : ℕ) → UnknownScheme number ↔ ((number ≡ 1 → ⊥) × (number ≡ 2 → ⊥))
   -- firmware: what is left, and what the number says
   pub write : (number : ℕ) (text label : List ℕ) → AllBelow 256 text
       → Answers writeCodes (writeOutcome number (length label) text) (writtenLabel number text) label

@@ -1,5 +1,7 @@
--- The demands as named statements, the table of known labels, and that LACE is as short as it may be.
+-- The demands as named statements, what writing a table promises, the table of known labels, and that LACE is as short as it may
+-- be.
 pub mod Demand1
 pub mod Demands
+pub mod Written
 pub mod KnownLabels
 pub mod Shortest

@@ -100,7 +100,7 @@ unfolding entryAt
 part-long t i h = ap length (part-is t i) ∙ length-take-le 67 (drop (3 + 67 * i) t) (simp length-drop (omega arith))
 
 -- the reader number is among the bytes of the entry
-reader-part : (bytes : List ℕ) → readerOf (take entryLength bytes) ≡ readerOf bytes
+pub reader-part : (bytes : List ℕ) → readerOf (take entryLength bytes) ≡ readerOf bytes
 unfolding readerOf numberAt
 reader-part bytes = rw (getD-take 67 bytes 1 0 (omega arith), getD-take 67 bytes 2 0 (omega arith))
 

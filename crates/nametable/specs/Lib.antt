@@ -1,4 +1,5 @@
--- The name table: its format, and what reading it and one entry of it answer.
+-- The name table: its format, what reading it and one entry of it answer, and what writing it does.
 pub mod Format
 pub mod Answer
+pub mod Writing
 pub mod Internal

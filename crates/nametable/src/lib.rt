@@ -1,7 +1,10 @@
-// The name table (the paper's book of names): reading it, and one entry of it by index.
+// The name table (the paper's book of names): reading it, one entry of it by index, and writing it.
 mod entries;
 mod layout;
+mod writing;
 
+use basis::ByteCount;
+use basis::BytesAnswer;
 use basis::ErrorCode;
 use layout::COUNT_START;
 use layout::ENTRY_LENGTH;
@@ -12,9 +15,10 @@ use scheme::Scheme;
 use utf16::PointCount;
 ghost use mathlib.Core.Path.{_≡_};
 ghost use lib.ListN.{length};
-ghost use Rattle.basis.specs.Outcome.{bufferAfter};
+ghost use Rattle.basis.specs.Outcome.{bytesOutcome, bufferAfter};
 ghost use Rattle.nametable.specs.Format.{entryAt};
 ghost use Rattle.nametable.specs.Answer.{tableOutcome, readOutcome, entryOutcome, entryFrom, findOutcome, judgedEntryOutcome, entryText};
+ghost use Rattle.nametable.specs.Writing.{entriesOf, writeOutcome, tableOf};
 
 // The room that a caller must have for the text of an entry, in points.
 pub const TEXT_CAPACITY: usize = 63;
@@ -105,5 +109,36 @@ pub fn entry(table: &[u8], index: usize, text: &mut [u32]) -> EntryAnswer
     match verdict {
         TableAnswer::Error { code, position } => entries::entry_error(code, position),
         TableAnswer::Entries(_) => judged_entry(table, index, text),
+    }
+}
+
+// Writes the table of a list: reader numbers, schemes as numbers, and the texts, each as long as its
+// length says, one after the other in the points.
+pub fn write(
+    readers: &[u16],
+    schemes: &[u32],
+    lengths: &[usize],
+    points: &[u32],
+    table: &mut [u8],
+) -> BytesAnswer
+    ensures { λ r. ⌜ bytesOutcome r ≡ writeOutcome (length (now (table .entry))) (now (readers .entry)) (now (schemes .entry)) (now (lengths .entry)) (now (points .entry)) ⌝ }
+    ensures { λ _. ⌜ now (table .exit) ≡ bufferAfter (writeOutcome (length (now (table .entry))) (now (readers .entry)) (now (schemes .entry)) (now (lengths .entry)) (now (points .entry))) (tableOf (entriesOf (now (readers .entry)) (now (schemes .entry)) (now (lengths .entry)) (now (points .entry)))) (now (table .entry)) ⌝ }
+{
+    if writing::lacks_room(table.len(), readers.len()) {
+        return basis::bytes_error(ErrorCode::Capacity, 0);
+    }
+    if !writing::is_list(readers, schemes, lengths, points) {
+        return basis::bytes_error(ErrorCode::Malformed, 0);
+    }
+    let judged = writing::judge_list(readers, schemes, lengths, points);
+    match judged {
+        BytesAnswer::Error { code, position } => basis::bytes_error(code, position),
+        BytesAnswer::Bytes(_) => BytesAnswer::Bytes(ByteCount(writing::put_table(
+            readers,
+            schemes,
+            lengths,
+            points,
+            table,
+        ))),
     }
 }

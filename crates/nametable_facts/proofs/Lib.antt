@@ -2,3 +2,6 @@
 pub mod Settled
 pub mod Truncation
 pub mod Whole
+pub mod ReadBack
+pub mod Found
+pub mod Rewritten

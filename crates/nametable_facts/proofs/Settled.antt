@@ -1,10 +1,10 @@
--- The causes settle what reading a table and one entry of it answer: each refuses exactly what it
--- must, in order.
+-- The causes settle what reading a table and one entry of it answer, and writing a list: each
+-- refuses exactly what it must, in order.
 use Prim.Native.Nat.{ℕ, zero, suc, _+_, _-_, _<_}
 use mathlib.Core.Path.{_≡_, ap}
 use mathlib.Core.Bool.{true, not}
 use mathlib.Core.Logic.{_↔_, inl, inr, ⊎-elim}
-use mathlib.Core.List.{List, []}
+use mathlib.Core.List.{List, [], _∷_}
 use lib.Dec.{eqb}
 use lib.ListN.{length, take, drop}
 use borrow.Author.Tests.{eqb-false, ne-eqb, not-true}
@@ -15,15 +15,16 @@ use Rattle.basis.specs.Outcome.{Outcome}
 use Rattle.basis.specs.Causes.{Cause, Settles}
 use Rattle.basis.proofs.Tests.{by-lt, true-not-false, ltb-iff, leb-iff, eqb-iff, fails-iff, within-true, within-below, within-above, none-iff, not-each, first-le, first-here}
 use Rattle.basis.proofs.Causes.{settle-done, settle-whole, settle-andThen}
-use Rattle.basis.proofs.Codec.{decode-settled}
-use Rattle.scheme.specs.Naming.{kindNames, isKnown}
+use Rattle.basis.proofs.Codec.{encode-settled, decode-settled}
+use Rattle.scheme.specs.Naming.{ownNumberNames, kindNames, isKnown}
 use Rattle.scheme.specs.Naming as naming
-use Rattle.scheme.specs.Coding.{codecOf}
+use Rattle.scheme.specs.Coding.{codecOf, labelOf}
 use Rattle.scheme.proofs.Naming.{names-none-iff}
 use Rattle.scheme.proofs.Coding.{faithful}
 use Rattle.nametable.specs.Format.{headerKind, headerLength, mostEntries, entryLength, labelCapacity, textCapacity, labelStart, countOf, tableLength, entryAt, kindOf, readerOf, lengthOf, labelIn, isFilled, schemeIn}
 use Rattle.nametable.specs.Answer.{headerTests, lengthTests, formTests, entryJudged, entriesJudged, readOutcome, entryText, findOutcome, entryRead, judgedEntryOutcome}
-use Rattle.nametable_facts.specs.Causes.{UnknownKind, Outside, NotFilled, entryCauses, entriesCauses, headerCauses, lengthCauses, tableCauses, findCauses, judgedEntryCauses}
+use Rattle.nametable.specs.Writing.{Entry, entry, entriesOf, sumOf, listTests, schemeOf, entryWritten, entriesWritten, writeOutcome}
+use Rattle.nametable_facts.specs.Causes.{UnknownKind, UnknownScheme, Outside, NotFilled, entryCauses, entriesCauses, headerCauses, lengthCauses, tableCauses, findCauses, judgedEntryCauses, entryWriteCauses, entriesWriteCauses, writeCauses}
 
 -- the tests that the causes are about
 unknown-iff : (e : List ℕ) → (not (isKnown (kindNames (kindOf e))) ≡ true) ↔ UnknownKind e
@@ -100,3 +101,34 @@ module _ (t : List ℕ) (index capacity : ℕ) where
       (λ _. settle-whole _ 13 (ltb-iff (length t) (tableLength (suc index)))
       (λ _. settle-andThen (λ _. index) (entryCauses labelCapacity 0 (entryAt t index)) [] _ _ _ _ (entry-settled labelCapacity 0 (entryAt t index))
       (λ _ _. settle-done (length (entryText t index)))))))
+
+-- writing
+unknown-scheme-iff : (number : ℕ) → (not (isKnown (ownNumberNames number)) ≡ true) ↔ UnknownScheme number
+unfolding ownNumberNames
+unknown-scheme-iff number = names-none-iff naming.numberOf number
+
+entry-write-settled : (least reader scheme : ℕ) (text : List ℕ)
+    → Settles (entryWriteCauses least (entry reader scheme text)) (length (labelOf (schemeOf scheme) text)) (entryWritten least (entry reader scheme text))
+unfolding entryWritten
+entry-write-settled least reader scheme text =
+    settle-whole _ 14 (ltb-iff reader least)
+    (λ _. settle-whole _ 14 (unknown-scheme-iff scheme)
+    (λ _. encode-settled (codecOf (schemeOf scheme)) (faithful (schemeOf scheme)) labelCapacity text (omega arith)))
+
+entries-write-settled : (index least : ℕ) (es : List Entry) (total : ℕ) → Settles (entriesWriteCauses index least es) total (entriesWritten index least es total)
+unfolding entriesWriteCauses entriesWritten
+entries-write-settled index least [] total = settle-done total
+entries-write-settled index least (entry reader scheme text ∷ es) total =
+    settle-andThen (λ _. index) (entryWriteCauses least (entry reader scheme text)) _ _ total _ _ (entry-write-settled least reader scheme text)
+    (λ _ _. entries-write-settled (suc index) _ es total)
+
+pub write-settled : (capacity : ℕ) (readers schemes lengths points : List ℕ)
+    → Settles (writeCauses capacity readers schemes lengths points) (tableLength (length readers)) (writeOutcome capacity readers schemes lengths points)
+unfolding writeOutcome listTests
+write-settled capacity readers schemes lengths points =
+    settle-whole _ 1 (ltb-iff capacity (tableLength (length readers)))
+    (λ _. settle-whole _ 14 (outside-iff 1 mostEntries (length readers))
+    (λ _. settle-whole _ 14 (fails-iff (eqb (length schemes) (length readers)) (eqb-iff (length schemes) (length readers)))
+    (λ _. settle-whole _ 14 (fails-iff (eqb (length lengths) (length readers)) (eqb-iff (length lengths) (length readers)))
+    (λ _. settle-whole _ 14 (fails-iff (eqb (sumOf lengths) (length points)) (eqb-iff (sumOf lengths) (length points)))
+    (λ _. entries-write-settled 0 0 (entriesOf readers schemes lengths points) (tableLength (length readers)))))))

@@ -1,4 +1,5 @@
--- The causes of refusal of a table and of one entry of it, each by itself, in order.
+-- The causes of refusal of a table, of one entry of it, and of a list to be written, each by itself,
+-- in order.
 use Prim.Native.Nat.{ℕ, zero, suc, _+_, _-_, _≤_, _<_}
 use mathlib.Core.Path.{_≡_}
 use mathlib.Core.Logic.{_⊎_}
@@ -10,6 +11,7 @@ use Rattle.scheme.specs.Naming as naming
 use Rattle.scheme.specs.Coding.{codecOf}
 use Rattle.scheme.specs.declared.Scheme.{Scheme}
 use Rattle.nametable.specs.Format.{headerKind, headerLength, mostEntries, entryLength, labelCapacity, textCapacity, labelStart, countOf, tableLength, entryAt, kindOf, readerOf, lengthOf, labelIn, schemeIn}
+use Rattle.nametable.specs.Writing.{Entry, entry, entriesOf, sumOf, schemeOf, readerIn}
 
 -- the kind is no scheme's
 abbrev pub UnknownKind : List ℕ → Type 0
@@ -61,3 +63,31 @@ abbrev pub judgedEntryCauses : List ℕ → (index capacity : ℕ) → List Caus
 judgedEntryCauses t index capacity =
     whole 1 (capacity < textCapacity) ∷ whole 13 (length t < headerLength) ∷ whole 14 (countOf t ≤ index) ∷ whole 13 (length t < tableLength (suc index))
     ∷ movedAll (λ _. index) (entryCauses labelCapacity 0 (entryAt t index)) []
+
+-- the number is no scheme's
+abbrev pub UnknownScheme : ℕ → Type 0
+UnknownScheme number = (s : Scheme) → number ≡ naming.numberOf s → ⊥
+
+-- against one entry to be written, whose reader number is to be at least the least: the reader
+-- number, the scheme, then the text's own
+abbrev pub entryWriteCauses : (least : ℕ) → Entry → List Cause
+entryWriteCauses least (entry reader scheme text) = whole 14 (reader < least) ∷ whole 14 (UnknownScheme scheme) ∷ codecOf (schemeOf scheme) .textCauses text
+
+-- against the entries from an index on, each at its index; the next reader number is to be one more
+-- at least
+unfoldable pub entriesWriteCauses : (index least : ℕ) → List Entry → List Cause
+entriesWriteCauses index least [] = []
+entriesWriteCauses index least (e ∷ es) = movedAll (λ _. index) (entryWriteCauses least e) (entriesWriteCauses (suc index) (suc (readerIn e)) es)
+
+-- against the rows of a list: a number of readers that is not 1 to 500; another number of schemes,
+-- or of lengths; lengths whose sum is not the number of points; then the later ones
+abbrev pub listCauses : (readers schemes lengths points : List ℕ) → List Cause → List Cause
+listCauses readers schemes lengths points later =
+    whole 14 (Outside 1 mostEntries (length readers)) ∷ whole 14 (length schemes ≡ length readers → ⊥) ∷ whole 14 (length lengths ≡ length readers → ⊥)
+    ∷ whole 14 (sumOf lengths ≡ length points → ⊥) ∷ later
+
+-- against writing a table: 1, the rows, then entry by entry
+abbrev pub writeCauses : (capacity : ℕ) (readers schemes lengths points : List ℕ) → List Cause
+writeCauses capacity readers schemes lengths points =
+    whole 1 (capacity < tableLength (length readers))
+    ∷ listCauses readers schemes lengths points (entriesWriteCauses 0 0 (entriesOf readers schemes lengths points))

@@ -1,2 +1,3 @@
--- The causes of refusal of the name table.
+-- The causes of refusal of the name table, and the entries that it holds.
 pub mod Causes
+pub mod Entries

@@ -9,7 +9,7 @@ use lib.Dec.{eqb}
 use borrow.Author.Tests.{eqb-true, eq-eqb}
 use Rattle.basis.specs.Tests.{both}
 use Rattle.basis.proofs.Tests.{cases, true-not-false, fails-iff, both-left, both-right}
-use Rattle.scheme.specs.Naming.{rowOf, schemes, numberOf, kindOf, letterOf, firstWith, defaultNumber, ownNumberNames, numberNames, isKnown}
+use Rattle.scheme.specs.Naming.{rowOf, schemes, numberOf, kindOf, letterOf, firstWith, defaultNumber, ownNumberNames, numberNames, kindNames, isKnown, schemeNamed}
 use Rattle.scheme.specs.declared.Scheme.{Scheme}
 use Rattle.scheme.specs.declared.Scheme.the-variants.{Altdude, Lace}
 use Rattle.scheme.specs.declared.Named.{Named}
@@ -60,6 +60,29 @@ same-value valueOf d s t e =
 
 pub same-number : (s t : Scheme) → numberOf s ≡ numberOf t → s ≡ t
 same-number = same-value numberOf (both-left _ _ directory-distinct)
+
+-- a scheme's number and its kind name it
+pub number-names : (s : Scheme) → ownNumberNames (numberOf s) ≡ Known s
+unfolding ownNumberNames
+number-names s = own-value numberOf schemes (both-left _ _ directory-distinct) s (every-scheme s)
+
+pub kind-names : (s : Scheme) → kindNames (kindOf s) ≡ Known s
+unfolding kindNames
+kind-names s = own-value kindOf schemes (both-left _ _ (both-right _ _ directory-distinct)) s (every-scheme s)
+
+-- and the scheme that a number or a kind names has it
+value-back : (valueOf : Scheme → ℕ) (value : ℕ) (list : List Scheme) → isKnown (firstWith valueOf value list) ≡ true → valueOf (schemeNamed (firstWith valueOf value list)) ≡ value
+unfolding firstWith isKnown schemeNamed
+value-back valueOf value [] e = absurd (true-not-false e refl)
+value-back valueOf value (t ∷ rest) e = cases (eqb value (valueOf t)) (λ q. rw q (sym (eqb-true _ _ q))) (λ q. rw q (value-back valueOf value rest (rw q at e)))
+
+pub number-back : (number : ℕ) → isKnown (ownNumberNames number) ≡ true → numberOf (schemeNamed (ownNumberNames number)) ≡ number
+unfolding ownNumberNames
+number-back number e = value-back numberOf number schemes e
+
+pub kind-back : (kind : ℕ) → isKnown (kindNames kind) ≡ true → kindOf (schemeNamed (kindNames kind)) ≡ kind
+unfolding kindNames
+kind-back kind e = value-back kindOf kind schemes e
 
 -- a value that names a scheme is a scheme's, and conversely
 value-of-named : (valueOf : Scheme → ℕ) (value : ℕ) (list : List Scheme) → isKnown (firstWith valueOf value list) ≡ true → (s : Scheme) × (value ≡ valueOf s)

@@ -45,7 +45,7 @@ firstWith valueOf value (s ∷ rest) = pick (eqb value (valueOf s)) (Known s) (f
 unfoldable pub defaultNumber : ℕ
 defaultNumber = 1
 
--- the scheme that a number names, 0 aside
+-- the scheme that a number names by itself; 0 names none
 unfoldable pub ownNumberNames : ℕ → Named
 ownNumberNames number = firstWith numberOf number schemes
 

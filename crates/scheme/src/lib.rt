@@ -5,7 +5,7 @@ ghost use mathlib.Core.Path.{_≡_};
 ghost use lib.ListN.{length};
 ghost use Rattle.basis.specs.Outcome.{bytesOutcome, bufferAfter};
 ghost use Rattle.utf16.specs.Answer.{pointsOutcome};
-ghost use Rattle.scheme.specs.Naming.{numberOf, letterOf, ownNumberNames, numberNames, kindNames};
+ghost use Rattle.scheme.specs.Naming.{numberOf, kindOf, letterOf, ownNumberNames, numberNames, kindNames};
 ghost use Rattle.scheme.specs.Coding.{encodeOutcome, decodeOutcome, labelOf, textOf};
 
 // A scheme.
@@ -30,6 +30,16 @@ pub fn number(scheme: Scheme) -> u32
     }
 }
 
+// The kind of the scheme's records.
+pub fn kind(scheme: Scheme) -> u8
+    ensures { λ r. ⌜ r ≡ kindOf scheme ⌝ }
+{
+    match scheme {
+        Scheme::Altdude => 0x41,
+        Scheme::Lace => 0x4c,
+    }
+}
+
 // The scheme's letter.
 pub fn letter(scheme: Scheme) -> u8
     ensures { λ r. ⌜ r ≡ letterOf scheme ⌝ }
@@ -43,8 +53,8 @@ pub fn letter(scheme: Scheme) -> u8
 // The number that 0 stands for: the house default.
 const DEFAULT: u32 = 1;
 
-// The scheme that a number other than 0 names.
-fn of_own_number(number: u32) -> Named
+// The scheme that a number names by itself; 0 names none.
+pub fn of_own_number(number: u32) -> Named
     ensures { λ r. ⌜ r ≡ ownNumberNames number ⌝ }
 {
     if number == 1 {

@@ -19,6 +19,7 @@ ghost use Rattle.lace.specs.Decoding.{textOf as laceTextOf};
 ghost use Rattle.lace.specs.Answer.{encodeOutcome as laceEncodeOutcome, decodeOutcome as laceDecodeOutcome};
 ghost use Rattle.nametable.specs.Format.{entryAt};
 ghost use Rattle.nametable.specs.Answer.{readOutcome, findOutcome, judgedEntryOutcome, entryFrom, entryText};
+ghost use Rattle.nametable.specs.Writing.{entriesOf, writeOutcome, tableOf};
 ghost use Rattle.test_exports.specs.Answer.{numbersOf, entryNumbersOf, answerAfter};
 
 // Exports `utf16::to_units`.
@@ -109,4 +110,23 @@ pub extern "C" fn test_table_judged_entry(
     ensures { λ _. ⌜ now (answer .exit) ≡ answerAfter (entryNumbersOf (entryFrom (entryAt (now (table .entry)) index) (judgedEntryOutcome (now (table .entry)) index (length (now (text .entry)))))) (now (answer .entry)) ⌝ }
 {
     answers::store_entry(nametable::judged_entry(table, index, text), answer);
+}
+
+// Exports `nametable::write`.
+#[no_mangle]
+pub extern "C" fn test_table_write(
+    readers: &[u16],
+    schemes: &[u32],
+    lengths: &[usize],
+    points: &[u32],
+    table: &mut [u8],
+    answer: &mut [u64],
+)
+    ensures { λ _. ⌜ now (table .exit) ≡ bufferAfter (writeOutcome (length (now (table .entry))) (now (readers .entry)) (now (schemes .entry)) (now (lengths .entry)) (now (points .entry))) (tableOf (entriesOf (now (readers .entry)) (now (schemes .entry)) (now (lengths .entry)) (now (points .entry)))) (now (table .entry)) ⌝ }
+    ensures { λ _. ⌜ now (answer .exit) ≡ answerAfter (numbersOf (writeOutcome (length (now (table .entry))) (now (readers .entry)) (now (schemes .entry)) (now (lengths .entry)) (now (points .entry)))) (now (answer .entry)) ⌝ }
+{
+    answers::store_bytes(
+        nametable::write(readers, schemes, lengths, points, table),
+        answer,
+    );
 }

@@ -2,27 +2,38 @@
 //! numbers and not the implementation's constants, so that a wrong constant is
 //! not shared.
 
+use super::lists::{self, List};
 use super::{labels, tables, texts, Source};
 use crate::scheme::Scheme;
 
-/// A call: the row given, the number beside it (a count, an index or a scheme
-/// number, else 0), and the lengths of the buffer and of the answer row.
+/// A call: what is given, and the lengths of the buffer and of the answer row.
 #[derive(Clone, Debug)]
 pub struct Call<G> {
-    pub given: Vec<G>,
-    pub number: usize,
+    pub given: G,
     pub capacity: usize,
     pub answer: usize,
 }
 
-/// A call with an answer row that is mostly as long as the five numbers.
-fn call<G>(source: &mut Source, given: Vec<G>, number: usize, capacity: usize) -> Call<G> {
-    let answer = match source.below(8) {
+/// A row that is given, and the number beside it: a count, an index or a scheme
+/// number, else 0.
+#[derive(Clone, Debug)]
+pub struct Row<T> {
+    pub elements: Vec<T>,
+    pub number: usize,
+}
+
+/// How long the answer row is: mostly as long as the five numbers.
+fn answer_length(source: &mut Source) -> usize {
+    match source.below(8) {
         0 => source.below(5),
         1 => source.between(6, 9),
         _ => 5,
-    };
-    Call { given, number, capacity, answer }
+    }
+}
+
+/// A call on one row and a number.
+fn call<T>(source: &mut Source, elements: Vec<T>, number: usize, capacity: usize) -> Call<Row<T>> {
+    Call { given: Row { elements, number }, capacity, answer: answer_length(source) }
 }
 
 /// A capacity around the one that is needed: none, one short, exact, more.
@@ -73,7 +84,7 @@ fn scheme_number(source: &mut Source) -> u32 {
 }
 
 /// Points to units.
-pub fn to_units(source: &mut Source) -> Call<u32> {
+pub fn to_units(source: &mut Source) -> Call<Row<u32>> {
     let points = texts::text(source);
     let count = count_for(source, points.len());
     let capacity = capacity_around(source, 2 * count.min(points.len()));
@@ -81,7 +92,7 @@ pub fn to_units(source: &mut Source) -> Call<u32> {
 }
 
 /// Units to points.
-pub fn to_points(source: &mut Source) -> Call<u16> {
+pub fn to_points(source: &mut Source) -> Call<Row<u16>> {
     let units = texts::units(source);
     let count = count_for(source, units.len());
     let capacity = capacity_around(source, count.min(units.len()));
@@ -89,45 +100,56 @@ pub fn to_points(source: &mut Source) -> Call<u16> {
 }
 
 /// Encoding a text under either scheme.
-pub fn encode(source: &mut Source) -> Call<u32> {
+pub fn encode(source: &mut Source) -> Call<Row<u32>> {
     let text = texts::text(source);
     let capacity = capacity_around(source, 63);
     call(source, text, 0, capacity)
 }
 
 /// Decoding a label of a scheme.
-fn decode(source: &mut Source, scheme: Scheme) -> Call<u8> {
+fn decode(source: &mut Source, scheme: Scheme) -> Call<Row<u8>> {
     let label = labels::label(source, scheme);
     let capacity = capacity_around(source, 63);
     call(source, label, 0, capacity)
 }
 
 /// Decoding an AltDUDE label.
-pub fn altdude_decode(source: &mut Source) -> Call<u8> {
+pub fn altdude_decode(source: &mut Source) -> Call<Row<u8>> {
     decode(source, Scheme::AltDude)
 }
 
 /// Decoding a LACE label.
-pub fn lace_decode(source: &mut Source) -> Call<u8> {
+pub fn lace_decode(source: &mut Source) -> Call<Row<u8>> {
     decode(source, Scheme::Lace)
 }
 
 /// Reading a table, which fills no buffer.
-pub fn table_read(source: &mut Source) -> Call<u8> {
+pub fn table_read(source: &mut Source) -> Call<Row<u8>> {
     let table = tables::table(source);
     call(source, table, 0, 0)
 }
 
 /// Reading one entry of a table, judged before or not.
-pub fn table_entry(source: &mut Source) -> Call<u8> {
+pub fn table_entry(source: &mut Source) -> Call<Row<u8>> {
     let table = tables::table(source);
     let index = index_for(source, table.len());
     let capacity = capacity_around(source, 63);
     call(source, table, index, capacity)
 }
 
+/// Writing the table of a list. The buffer may also be as long as a header, one
+/// byte shorter, or as long as a table of one entry.
+pub fn table_write(source: &mut Source) -> Call<List> {
+    let given = lists::list(source);
+    let capacity = match source.below(16) {
+        0 => source.pick(&[2, 3, 69, 70]),
+        _ => capacity_around(source, 3 + 67 * given.readers.len()),
+    };
+    Call { given, capacity, answer: answer_length(source) }
+}
+
 /// Writing through the C interface.
-pub fn write(source: &mut Source) -> Call<u8> {
+pub fn write(source: &mut Source) -> Call<Row<u8>> {
     let scheme = scheme_number(source);
     let text = texts::text_bytes(source);
     let capacity = capacity_around(source, 63);
@@ -135,7 +157,7 @@ pub fn write(source: &mut Source) -> Call<u8> {
 }
 
 /// Reading through the C interface.
-pub fn read(source: &mut Source) -> Call<u8> {
+pub fn read(source: &mut Source) -> Call<Row<u8>> {
     let scheme = scheme_number(source);
     let label = labels::label(source, Scheme::of_number(scheme).unwrap_or(Scheme::Lace));
     let capacity = capacity_around(source, 252);

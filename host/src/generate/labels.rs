@@ -23,15 +23,25 @@ pub fn change_case(source: &mut Source, label: &mut [u8]) {
     }
 }
 
-/// The label of a lawful text.
-pub fn lawful(source: &mut Source, scheme: Scheme) -> Vec<u8> {
+/// A text that may be encoded, and its label.
+fn lawful_pair(source: &mut Source, scheme: Scheme) -> (Vec<u32>, Vec<u8>) {
     let mut buffer = [0; LABEL_MAX];
     loop {
         let text = points(source);
         if let Ok(count) = scheme.encode(&text, &mut buffer) {
-            return buffer[..count].to_vec();
+            return (text, buffer[..count].to_vec());
         }
     }
+}
+
+/// The label of a lawful text.
+pub fn lawful(source: &mut Source, scheme: Scheme) -> Vec<u8> {
+    lawful_pair(source, scheme).1
+}
+
+/// A text that may be encoded.
+pub fn lawful_text(source: &mut Source, scheme: Scheme) -> Vec<u32> {
+    lawful_pair(source, scheme).0
 }
 
 /// The label of one point, and then a group that a careless reader takes.

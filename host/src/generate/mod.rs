@@ -2,6 +2,7 @@
 
 pub mod calls;
 pub mod labels;
+pub mod lists;
 pub mod tables;
 pub mod texts;
 

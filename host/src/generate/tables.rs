@@ -7,24 +7,27 @@ use crate::papers::table_of;
 use crate::point::LABEL_MAX;
 use crate::scheme::Scheme;
 
-/// A table of so many entries in order, with lawful labels.
-pub fn whole_table(source: &mut Source, entries: usize) -> Vec<u8> {
+/// So many reader numbers that rise: one or more, and 501 at most.
+pub fn rising(source: &mut Source, entries: usize) -> Vec<u16> {
     // The reader numbers stay below 65,536 where they begin with one of these.
     let step = source.pick(&[1, 2, 500 / entries]).max(1) as u16;
-    let mut reader = source.pick(&[0, 1, 7, 255, 256, 65_535 - (entries - 1) as u16 * step]);
+    let last = (entries - 1) as u16;
+    let first = source.pick(&[0, 1, 7, 255, 256, 65_535 - last * step]);
+    (0..=last).map(|index| first + index * step).collect()
+}
+
+/// A table of so many entries in order, with lawful labels.
+pub fn whole_table(source: &mut Source, entries: usize) -> Vec<u8> {
     let mut rows = Vec::new();
-    for index in 0..entries {
+    for reader in rising(source, entries) {
         let scheme = source.pick(&[Scheme::AltDude, Scheme::Lace]);
         rows.push((scheme.kind(), reader, lawful(source, scheme)));
-        if index + 1 < entries {
-            reader += step;
-        }
     }
     table_of(&rows)
 }
 
 /// How many entries a table has: few, seldom many, now and then the most.
-fn entries(source: &mut Source) -> usize {
+pub fn entries(source: &mut Source) -> usize {
     if source.once_in(2000) {
         return ENTRIES_MAX;
     }

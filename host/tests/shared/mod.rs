@@ -6,16 +6,11 @@ use std::fmt::Debug;
 /// An error's code and position.
 pub type Error = (u64, u64);
 
-/// Calls a function. Answers the five numbers, or the error, whose other
+/// Makes a call that stores five numbers. Answers them, or the error, whose other
 /// numbers are 0.
-pub fn numbers<G, B>(
-    function: Function<G, B>,
-    given: &[G],
-    number: usize,
-    buffer: &mut [B],
-) -> Result<Numbers, Error> {
+pub fn numbers(call: impl FnOnce(&mut [u64])) -> Result<Numbers, Error> {
     let mut five = [u64::MAX; 5];
-    function(given, number, buffer, &mut five);
+    call(&mut five);
     match five {
         [0, position, ..] => {
             assert_eq!(position, 0);
@@ -28,8 +23,23 @@ pub fn numbers<G, B>(
     }
 }
 
-/// Calls a function with a buffer of a capacity. Answers the elements written,
+/// Makes a call that fills a buffer of a capacity. Answers the elements written,
 /// or the error; what was not written is as it was.
+pub fn filled<B>(capacity: usize, call: impl FnOnce(&mut [B], &mut [u64])) -> Result<Vec<B>, Error>
+where
+    B: Copy + Debug + PartialEq + From<u8>,
+{
+    let held = B::from(0x5A);
+    let mut buffer = vec![held; capacity];
+    let answer = numbers(|five| call(&mut buffer, five));
+    let count = answer.map_or(0, |five| five[2] as usize);
+    assert!(buffer[count..].iter().all(|&element| element == held));
+    buffer.truncate(count);
+    answer.map(|_| buffer)
+}
+
+/// Calls a function with a buffer of a capacity. Answers the elements written,
+/// or the error.
 pub fn called<G, B>(
     function: Function<G, B>,
     given: &[G],
@@ -39,11 +49,5 @@ pub fn called<G, B>(
 where
     B: Copy + Debug + PartialEq + From<u8>,
 {
-    let held = B::from(0x5A);
-    let mut buffer = vec![held; capacity];
-    let answer = numbers(function, given, number, &mut buffer);
-    let count = answer.map_or(0, |five| five[2] as usize);
-    assert!(buffer[count..].iter().all(|&element| element == held));
-    buffer.truncate(count);
-    answer.map(|_| buffer)
+    filled(capacity, |buffer, five| function(given, number, buffer, five))
 }

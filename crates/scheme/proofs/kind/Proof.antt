@@ -1,0 +1,16 @@
+-- `kind` meets its contract, by the two schemes.
+use Rattle.scheme.specs.Naming.{rowOf, kindOf}
+use borrow.Author.Needs.{needs}
+use Rattle.scheme.proofs.kind.Statement.{statement}
+use Rattle.scheme.proofs.kind.Tie as tie
+
+returns : tie.Need-returns
+unfolding kindOf rowOf
+returns c = rw (c .enum-told .given .1)
+
+returns-2 : tie.Need-returns-2
+unfolding kindOf rowOf
+returns-2 c = rw (c .enum-told2 .given .1)
+
+pub kind-spec : {M : Type 1} → statement M
+kind-spec = tie.close (tie.spec (λ c. search needs) (λ c. search needs) returns returns-2)
