@@ -290,5 +290,8 @@ fn written_tables_are_listed() {
         }
     }
     let sample = [(7, 1, vec![0xFC]), (300, 2, vec![0xFC])];
-    assert_eq!(listing_of(&sample), "00007 A U+00FC\n00300 L U+00FC\n");
+    for one in implementations() {
+        let table = written(&one, &sample).unwrap();
+        assert_eq!(listed(&table), "00007 A U+00FC\n00300 L U+00FC\n");
+    }
 }

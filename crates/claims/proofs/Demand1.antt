@@ -43,9 +43,9 @@ use Rattle.scheme.specs.Naming as naming
 use Rattle.scheme.proofs.Naming.{by-scheme}
 use Rattle.labels.specs.Tests.{textTests, labelTests}
 use Rattle.scheme.specs.Coding as scheme
-use Rattle.nametable.specs.Format.{headerLength, entryLength, labelCapacity, countOf, tableLength, entryAt, kindOf, readerOf, lengthOf, labelIn, schemeIn}
+use Rattle.nametable_format.specs.Format.{headerLength, entryLength, labelCapacity, countOf, tableLength, entryAt, kindOf, readerOf, lengthOf, labelIn, schemeIn}
 use Rattle.nametable.specs.Answer.{headerTests, lengthTests, formTests, entryJudged, entriesJudged, readOutcome, entryText, findOutcome, entryRead, judgedEntryOutcome}
-use Rattle.nametable.specs.Writing as writing
+use Rattle.nametable_write.specs.Writing as writing
 use Rattle.nametable.proofs.TableLaws.{cut-table, find-refused, judged-as-found}
 use Rattle.nametable_facts.proofs.Settled.{read-settled, find-settled, judged-entry-settled, write-settled}
 use Rattle.nametable_facts.proofs.Truncation.{prefix-truncated}

@@ -6,9 +6,9 @@ use lib.ListN.{length, drop}
 use lib.Seq.{take-at}
 use Rattle.basis.specs.Outcome.{done, bufferAfter}
 use native.Mathlib.Omega.{arith}
-use Rattle.nametable.specs.Format.{entryAt}
+use Rattle.nametable_format.specs.Format.{entryAt}
 use Rattle.nametable.specs.Answer.{readOutcome, findOutcome, entryText}
-use Rattle.nametable.specs.Writing.{entriesOf, writeOutcome, tableOf}
+use Rattle.nametable_write.specs.Writing.{entriesOf, writeOutcome, tableOf}
 use Rattle.nametable.proofs.TableLaws.{read-table}
 use Rattle.nametable_facts.specs.Entries.{entriesFrom, entriesIn, readersOf, schemesOf, lengthsOf, pointsOf, Holds}
 use Rattle.nametable_facts.proofs.Whole.{entry-found}

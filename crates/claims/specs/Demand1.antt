@@ -32,9 +32,9 @@ use Rattle.lace.specs.Answer as lace
 use Rattle.scheme.specs.declared.Scheme.{Scheme}
 use Rattle.scheme.specs.declared.Scheme.the-variants.{Altdude, Lace}
 use Rattle.scheme.specs.Coding as scheme
-use Rattle.nametable.specs.Format as nametable
+use Rattle.nametable_format.specs.Format as nametable
 use Rattle.nametable.specs.Answer.{readOutcome, findOutcome, judgedEntryOutcome, entryText}
-use Rattle.nametable.specs.Writing as writing
+use Rattle.nametable_write.specs.Writing as writing
 use Rattle.nametable_facts.specs.Causes.{UnknownKind, UnknownScheme, tableCauses, findCauses, judgedEntryCauses, writeCauses}
 use Rattle.firmware.specs.Answer.{answerOf, writeOutcome, writtenLabel, readText}
 use Rattle.firmware.specs.Answer as firmware

@@ -7,9 +7,9 @@ use lib.ListN.{length, take}
 use Rattle.basis.specs.Rows.{AllBelow}
 use Rattle.basis.specs.Outcome.{done, bufferAfter}
 use Rattle.scheme.specs.Coding.{labelOf}
-use Rattle.nametable.specs.Format.{entryAt, labelIn, schemeIn}
+use Rattle.nametable_format.specs.Format.{entryAt, labelIn, schemeIn}
 use Rattle.nametable.specs.Answer.{readOutcome, findOutcome, entryText}
-use Rattle.nametable.specs.Writing.{Entry, entriesOf, writeOutcome, tableOf}
+use Rattle.nametable_write.specs.Writing.{Entry, entriesOf, writeOutcome, tableOf}
 use Rattle.nametable_facts.specs.Entries.{entriesIn, readersOf, schemesOf, lengthsOf, pointsOf, Holds}
 
 -- the bytes that writing the list into the buffer leaves before this count

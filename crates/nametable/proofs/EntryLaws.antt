@@ -26,7 +26,7 @@ use Rattle.scheme.specs.declared.Scheme.{Scheme}
 use Rattle.scheme.specs.declared.Named.{Named}
 use Rattle.scheme.specs.declared.Named.the-variants.{Known, Unknown}
 use Rattle.scheme.proofs.Coding.{faithful, decoded-count}
-use Rattle.nametable.specs.Format.{entryLength, labelCapacity, textCapacity, labelStart, lengthStart, numberAt, readerStart, kindOf, readerOf, lengthOf, labelIn, isFilled, schemeIn}
+use Rattle.nametable_format.specs.Format.{entryLength, labelCapacity, textCapacity, labelStart, lengthStart, numberAt, readerStart, kindOf, readerOf, lengthOf, labelIn, isFilled, schemeIn}
 use Rattle.nametable.specs.Answer.{formTests, entryJudged, textIn, entryRead, entryOutcome, entryFrom}
 use Rattle.nametable.specs.Internal.{Tested}
 use Rattle.nametable.specs.declared.entries.Form.the-variants.{Lawful, Malformed}

@@ -1,7 +1,3 @@
--- The laws on entries and tables, on lists to be written and their bytes, and examples.
+-- The laws on entries and tables.
 pub mod EntryLaws
 pub mod TableLaws
-pub mod ListLaws
-pub mod StoreLaws
-pub mod WriteLaws
-pub mod Examples

@@ -5,8 +5,8 @@ use mathlib.Core.Path.{_≡_, refl, sym, ap, _∙_}
 use mathlib.Core.Bool.{not}
 use mathlib.Core.List.{List}
 use lib.Dec.{ltb, leb}
-use lib.ListN.{length, take, drop, length-drop}
-use lib.Seq.{length-take-le, getD-take, drop-drop}
+use lib.ListN.{length, take, drop}
+use lib.Seq.{getD-take, drop-drop}
 use borrow.Author.Tests.{lt-ltb, ltb-false, eq-eqb, ne-eqb, eqb-true, le-leb, lt-leb, leb-false, not-false}
 use native.Mathlib.Numerals.{add-one}
 use native.Mathlib.Omega.{arith}
@@ -19,7 +19,8 @@ use Rattle.basis.proofs.Outcome.{stop-if, pass-if, stop-equal, pass-equal, stop
 use Rattle.utf16.specs.declared.PointCount.{PointCount}
 use Rattle.scheme.specs.Naming as naming
 use Rattle.scheme.specs.declared.Scheme.{Scheme}
-use Rattle.nametable.specs.Format.{headerKind, headerLength, mostEntries, entryLength, labelCapacity, textCapacity, numberAt, countOf, tableLength, entryAt, readerOf, schemeIn}
+use Rattle.nametable_format.proofs.Parts.{entry-part}
+use Rattle.nametable_format.specs.Format.{headerKind, headerLength, mostEntries, entryLength, labelCapacity, textCapacity, numberAt, countOf, tableLength, entryAt, readerOf, schemeIn}
 use Rattle.nametable.specs.Answer.{tableOutcome, headerTests, lengthTests, formTests, entryJudged, entriesJudged, readOutcome, textIn, entryText, findOutcome, entryRead, judgedEntryOutcome, found, notFound, entryOutcome, entryFrom}
 use Rattle.nametable.specs.declared.TableAnswer.{TableAnswer}
 use Rattle.nametable.specs.declared.TableAnswer.the-variants as table
@@ -93,11 +94,7 @@ partAt t i = take (tableLength i + entryLength - tableLength i) (drop (tableLeng
 
 pub part-is : (t : List ℕ) (i : ℕ) → partAt t i ≡ entryAt t i
 unfolding entryAt
-part-is t i = let n : 3 + 67 * i + 67 - (3 + 67 * i) ≡ 67 = omega arith in rw n
-
-pub part-long : (t : List ℕ) (i : ℕ) → tableLength i + entryLength ≤ length t → length (partAt t i) ≡ entryLength
-unfolding entryAt
-part-long t i h = ap length (part-is t i) ∙ length-take-le 67 (drop (3 + 67 * i) t) (simp length-drop (omega arith))
+part-is t i = entry-part t (tableLength i)
 
 -- the reader number is among the bytes of the entry
 pub reader-part : (bytes : List ℕ) → readerOf (take entryLength bytes) ≡ readerOf bytes

@@ -10,7 +10,7 @@ use Rattle.basis.specs.Outcome.{Outcome, done, refused, refusedIf, andThen, num
 use Rattle.scheme.specs.Naming.{kindNames, isKnown}
 use Rattle.scheme.specs.Naming as naming
 use Rattle.scheme.specs.Coding.{decodeOutcome, textOf}
-use Rattle.nametable.specs.Format.{headerKind, headerLength, mostEntries, entryLength, labelCapacity, textCapacity, countOf, tableLength, entryAt, kindOf, readerOf, lengthOf, labelIn, isFilled, schemeIn}
+use Rattle.nametable_format.specs.Format.{headerKind, headerLength, mostEntries, entryLength, labelCapacity, textCapacity, countOf, tableLength, entryAt, kindOf, readerOf, lengthOf, labelIn, isFilled, schemeIn}
 use Rattle.nametable.specs.declared.TableAnswer.{TableAnswer}
 use Rattle.nametable.specs.declared.TableAnswer.the-variants as table
 use Rattle.nametable.specs.declared.EntryAnswer.{EntryAnswer}

@@ -1,5 +1,3 @@
--- The name table: its format, what reading it and one entry of it answer, and what writing it does.
-pub mod Format
+-- The name table: what reading it and one entry of it answer.
 pub mod Answer
-pub mod Writing
 pub mod Internal

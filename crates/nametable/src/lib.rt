@@ -1,24 +1,22 @@
 // The name table (the paper's book of names): reading it, one entry of it by index, and writing it.
 mod entries;
 mod layout;
-mod writing;
 
-use basis::ByteCount;
 use basis::BytesAnswer;
 use basis::ErrorCode;
-use layout::COUNT_START;
-use layout::ENTRY_LENGTH;
-use layout::HEADER_KIND;
-use layout::HEADER_LENGTH;
-use layout::MOST_ENTRIES;
+use nametable_format::COUNT_START;
+use nametable_format::ENTRY_LENGTH;
+use nametable_format::HEADER_KIND;
+use nametable_format::HEADER_LENGTH;
+use nametable_format::MOST_ENTRIES;
 use scheme::Scheme;
 use utf16::PointCount;
 ghost use mathlib.Core.Path.{_≡_};
 ghost use lib.ListN.{length};
 ghost use Rattle.basis.specs.Outcome.{bytesOutcome, bufferAfter};
-ghost use Rattle.nametable.specs.Format.{entryAt};
+ghost use Rattle.nametable_format.specs.Format.{entryAt};
 ghost use Rattle.nametable.specs.Answer.{tableOutcome, readOutcome, entryOutcome, entryFrom, findOutcome, judgedEntryOutcome, entryText};
-ghost use Rattle.nametable.specs.Writing.{entriesOf, writeOutcome, tableOf};
+ghost use Rattle.nametable_write.specs.Writing.{entriesOf, writeOutcome, tableOf};
 
 // The room that a caller must have for the text of an entry, in points.
 pub const TEXT_CAPACITY: usize = 63;
@@ -113,7 +111,7 @@ pub fn entry(table: &[u8], index: usize, text: &mut [u32]) -> EntryAnswer
 }
 
 // Writes the table of a list: reader numbers, schemes as numbers, and the texts, each as long as its
-// length says, one after the other in the points.
+// length says, one after the other in the points. The steps are those of `nametable_write`.
 pub fn write(
     readers: &[u16],
     schemes: &[u32],
@@ -124,21 +122,5 @@ pub fn write(
     ensures { λ r. ⌜ bytesOutcome r ≡ writeOutcome (length (now (table .entry))) (now (readers .entry)) (now (schemes .entry)) (now (lengths .entry)) (now (points .entry)) ⌝ }
     ensures { λ _. ⌜ now (table .exit) ≡ bufferAfter (writeOutcome (length (now (table .entry))) (now (readers .entry)) (now (schemes .entry)) (now (lengths .entry)) (now (points .entry))) (tableOf (entriesOf (now (readers .entry)) (now (schemes .entry)) (now (lengths .entry)) (now (points .entry)))) (now (table .entry)) ⌝ }
 {
-    if writing::lacks_room(table.len(), readers.len()) {
-        return basis::bytes_error(ErrorCode::Capacity, 0);
-    }
-    if !writing::is_list(readers, schemes, lengths, points) {
-        return basis::bytes_error(ErrorCode::Malformed, 0);
-    }
-    let judged = writing::judge_list(readers, schemes, lengths, points);
-    match judged {
-        BytesAnswer::Error { code, position } => basis::bytes_error(code, position),
-        BytesAnswer::Bytes(_) => BytesAnswer::Bytes(ByteCount(writing::put_table(
-            readers,
-            schemes,
-            lengths,
-            points,
-            table,
-        ))),
-    }
+    nametable_write::write(readers, schemes, lengths, points, table)
 }

@@ -6,8 +6,8 @@ use lib.ListN.{length, take, drop}
 use lib.Seq.{drop-drop}
 use native.Mathlib.Omega.{arith}
 use Rattle.basis.specs.Rows.{at}
-use Rattle.nametable.specs.Format.{entryAt}
-use Rattle.nametable.specs.Writing.{Entry, entry, entriesOf, sumOf, readerIn}
+use Rattle.nametable_format.specs.Format.{entryAt}
+use Rattle.nametable_write.specs.Writing.{Entry, entry, entriesOf, sumOf, readerIn}
 use Rattle.nametable_facts.specs.Entries.{entryIn, entriesFrom, Holds}
 
 -- the first of the entries, and the others

@@ -21,13 +21,13 @@ use Rattle.scheme.specs.Naming.{ownNumberNames, kindNames, isKnown, schemeNamed
 use Rattle.scheme.specs.Coding.{codecOf, decodeOutcome, labelOf, textOf}
 use Rattle.scheme.proofs.Naming.{kind-names, number-back}
 use Rattle.scheme.proofs.Coding.{faithful, label-case, label-some}
-use Rattle.nametable.specs.Format.{mostEntries, labelCapacity, textCapacity, numberAt, countOf, tableLength, entryAt, kindOf, readerOf, lengthOf, labelIn, isFilled, schemeIn}
+use Rattle.nametable_format.specs.Format.{mostEntries, labelCapacity, textCapacity, numberAt, countOf, tableLength, entryAt, kindOf, readerOf, lengthOf, labelIn, isFilled, schemeIn}
 use Rattle.nametable.specs.Answer.{formTests, entryJudged, entriesJudged, readOutcome, textIn}
-use Rattle.nametable.specs.Writing.{Entry, entry, entriesOf, listTests, schemeOf, entryWritten, readerIn, entriesWritten, writeOutcome, numberBytes, zeros, filled, entryBytes, entriesBytes, tableOf}
-use Rattle.nametable.specs.Internal.{Rows, Spelled}
+use Rattle.nametable_write.specs.Writing.{Entry, entry, entriesOf, listTests, schemeOf, entryWritten, readerIn, entriesWritten, writeOutcome, numberBytes, zeros, filled, entryBytes, entriesBytes, tableOf}
+use Rattle.nametable_write.specs.Internal.{Rows, Spelled}
 use Rattle.nametable.proofs.TableLaws.{by-entries}
-use Rattle.nametable.proofs.ListLaws.{left-count}
-use Rattle.nametable.proofs.StoreLaws.{label-writable, label-short, entry-long, all-spelled, written-total, table-long}
+use Rattle.nametable_write.proofs.ListLaws.{left-count}
+use Rattle.nametable_write.proofs.StoreLaws.{label-writable, label-short, entry-long, all-spelled, written-total, table-long}
 use Rattle.nametable_facts.specs.Entries.{entryIn, entriesFrom, entriesIn}
 
 -- zeros at each index
@@ -47,7 +47,7 @@ module _ (reader scheme : ℕ) (text : List ℕ) (spelled : Spelled (entry reade
   unfolding kindOf entryBytes numberBytes isKnown
   kind-known = rw (kind-names (schemeOf scheme))
 
-  pub scheme-held : schemeIn bytes ≡ schemeOf scheme
+  scheme-held : schemeIn bytes ≡ schemeOf scheme
   unfolding schemeIn kindOf entryBytes numberBytes schemeNamed
   scheme-held = rw (kind-names (schemeOf scheme))
 
@@ -89,7 +89,7 @@ module _ (reader scheme : ℕ) (text : List ℕ) (spelled : Spelled (entry reade
       decode-settled (codecOf (schemeOf scheme)) (faithful (schemeOf scheme)) textCapacity label (omega arith) .succeeds (length (textOf (schemeOf scheme) label)) .1
       (faithful (schemeOf scheme) .readable text label (label-writable reader scheme text spelled) same, refl)
 
-  pub text-held : textIn bytes ≡ text
+  text-held : textIn bytes ≡ text
   unfolding textIn
   text-held = rw (scheme-held, label-held) text-back
 
@@ -107,12 +107,12 @@ module _ (reader scheme : ℕ) (text : List ℕ) (spelled : Spelled (entry reade
 
 -- an entry that is judged good: its reader number is at least the least, its scheme is known, and its
 -- label may be written
-pub record Good (least reader scheme : ℕ) (text : List ℕ) : Type 0 where
+record Good (least reader scheme : ℕ) (text : List ℕ) : Type 0 where
   pub rising : least ≤ reader
   pub known : isKnown (ownNumberNames scheme) ≡ true
   pub spelled : Spelled (entry reader scheme text)
 
-pub judged-good : (least reader scheme : ℕ) (text : List ℕ) {n : ℕ} → entryWritten least (entry reader scheme text) ≡ done n → Good least reader scheme text
+judged-good : (least reader scheme : ℕ) (text : List ℕ) {n : ℕ} → entryWritten least (entry reader scheme text) ≡ done n → Good least reader scheme text
 unfolding entryWritten
 judged-good least reader scheme text {n} e =
     let rises = passed _ _ _ _ _ e in
@@ -156,13 +156,13 @@ module _ (es : List Entry) (total : ℕ) {n : ℕ} (written : entriesWritten 0 0
   unfolding countOf numberAt tableOf numberBytes
   count-held = omega arith
 
-  pub table-reads : 1 ≤ length es → length es ≤ mostEntries → readOutcome (tableOf es) ≡ done (length es)
+  table-reads : 1 ≤ length es → length es ≤ mostEntries → readOutcome (tableOf es) ≡ done (length es)
   unfolding tableOf numberBytes
   table-reads some few =
       let long = table-long es (all-spelled 0 0 es total written) in
       by-entries (tableOf es) refl (omega (arith, long)) count-held some few long ∙ written-judged 0 0 es total (length es) written
 
-  pub table-holds : entriesIn (tableOf es) ≡ es
+  table-holds : entriesIn (tableOf es) ≡ es
   unfolding entriesIn tableOf numberBytes
   table-holds = rw (← count-held) (written-held (tableOf es) 0 0 es total written refl)
 

@@ -23,13 +23,13 @@ use Rattle.scheme.specs.Coding.{codecOf, encodeOutcome, decodeOutcome, labelOf}
 use Rattle.scheme.specs.declared.Scheme.{Scheme}
 use Rattle.scheme.proofs.Naming.{number-names, kind-back}
 use Rattle.scheme.proofs.Coding.{faithful, decoded-writable}
-use Rattle.nametable.specs.Format.{headerKind, headerLength, entryLength, labelStart, labelCapacity, textCapacity, numberAt, countOf, tableLength, entryAt, kindOf, readerOf, lengthOf, labelIn, isFilled, schemeIn}
+use Rattle.nametable_format.specs.Format.{headerKind, headerLength, entryLength, labelStart, labelCapacity, textCapacity, numberAt, countOf, tableLength, entryAt, kindOf, readerOf, lengthOf, labelIn, isFilled, schemeIn}
 use Rattle.nametable.specs.Answer.{formTests, entryJudged, entriesJudged, readOutcome, textIn, entryText}
-use Rattle.nametable.specs.Writing.{Entry, entry, entriesOf, sumOf, schemeOf, entryWritten, readerIn, entriesWritten, writeOutcome, numberBytes, zeros, filled, entryBytes, entriesBytes, tableOf}
-use Rattle.nametable.specs.Internal.{Spelled}
+use Rattle.nametable_write.specs.Writing.{Entry, entry, entriesOf, sumOf, schemeOf, entryWritten, readerIn, entriesWritten, writeOutcome, numberBytes, zeros, filled, entryBytes, entriesBytes, tableOf}
+use Rattle.nametable_write.specs.Internal.{Spelled}
 use Rattle.nametable.proofs.TableLaws.{by-entries, reader-part, read-table}
-use Rattle.nametable.proofs.ListLaws.{by-sum}
-use Rattle.nametable.proofs.StoreLaws.{entry-long}
+use Rattle.nametable_write.proofs.ListLaws.{by-sum}
+use Rattle.nametable_write.proofs.StoreLaws.{entry-long}
 use Rattle.nametable_facts.specs.Entries.{entryIn, entriesFrom, entriesIn, readersOf, schemesOf, lengthsOf, pointsOf}
 use Rattle.nametable_facts.proofs.Whole.{label-long}
 use Rattle.nametable_facts.proofs.ReadBack.{zero-at, label-held}

@@ -21,9 +21,9 @@ use Rattle.scheme.specs.Naming as naming
 use Rattle.scheme.specs.Coding.{codecOf, labelOf}
 use Rattle.scheme.proofs.Naming.{names-none-iff}
 use Rattle.scheme.proofs.Coding.{faithful}
-use Rattle.nametable.specs.Format.{headerKind, headerLength, mostEntries, entryLength, labelCapacity, textCapacity, labelStart, countOf, tableLength, entryAt, kindOf, readerOf, lengthOf, labelIn, isFilled, schemeIn}
+use Rattle.nametable_format.specs.Format.{headerKind, headerLength, mostEntries, entryLength, labelCapacity, textCapacity, labelStart, countOf, tableLength, entryAt, kindOf, readerOf, lengthOf, labelIn, isFilled, schemeIn}
 use Rattle.nametable.specs.Answer.{headerTests, lengthTests, formTests, entryJudged, entriesJudged, readOutcome, entryText, findOutcome, entryRead, judgedEntryOutcome}
-use Rattle.nametable.specs.Writing.{Entry, entry, entriesOf, sumOf, listTests, schemeOf, entryWritten, entriesWritten, writeOutcome}
+use Rattle.nametable_write.specs.Writing.{Entry, entry, entriesOf, sumOf, listTests, schemeOf, entryWritten, entriesWritten, writeOutcome}
 use Rattle.nametable_facts.specs.Causes.{UnknownKind, UnknownScheme, Outside, NotFilled, entryCauses, entriesCauses, headerCauses, lengthCauses, tableCauses, findCauses, judgedEntryCauses, entryWriteCauses, entriesWriteCauses, writeCauses}
 
 -- the tests that the causes are about

@@ -8,7 +8,7 @@ use native.Mathlib.Omega.{arith}
 use Rattle.basis.specs.Rows.{at}
 use Rattle.basis.specs.Outcome.{done, refused}
 use Rattle.basis.proofs.Tests.{by-lt}
-use Rattle.nametable.specs.Format.{headerKind, headerLength, numberAt, countOf}
+use Rattle.nametable_format.specs.Format.{headerKind, headerLength, numberAt, countOf}
 use Rattle.nametable.specs.Answer.{readOutcome}
 use Rattle.nametable.proofs.TableLaws.{empty-table, short-header, cut-table, Table, read-table}
 

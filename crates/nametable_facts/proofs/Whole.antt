@@ -10,7 +10,7 @@ use Rattle.basis.specs.Outcome.{done, andThen}
 use Rattle.basis.proofs.Outcome.{pass-if, pass-below, both-done, passed}
 use Rattle.scheme.specs.Coding.{decodeOutcome}
 use Rattle.scheme.proofs.Coding.{decoded-short}
-use Rattle.nametable.specs.Format.{entryLength, labelCapacity, labelStart, textCapacity, entryAt, lengthOf, labelIn, schemeIn}
+use Rattle.nametable_format.specs.Format.{entryLength, labelCapacity, labelStart, textCapacity, entryAt, lengthOf, labelIn, schemeIn}
 use Rattle.nametable.specs.Answer.{formTests, entryJudged, readOutcome, textIn, entryText, findOutcome, entryRead, judgedEntryOutcome}
 use Rattle.nametable.proofs.TableLaws.{read-table, judged-as-found}
 use Rattle.nametable_facts.proofs.Settled.{judged-entry-settled}

@@ -10,8 +10,8 @@ use Rattle.basis.specs.Causes.{Cause, whole, movedAll}
 use Rattle.scheme.specs.Naming as naming
 use Rattle.scheme.specs.Coding.{codecOf}
 use Rattle.scheme.specs.declared.Scheme.{Scheme}
-use Rattle.nametable.specs.Format.{headerKind, headerLength, mostEntries, entryLength, labelCapacity, textCapacity, labelStart, countOf, tableLength, entryAt, kindOf, readerOf, lengthOf, labelIn, schemeIn}
-use Rattle.nametable.specs.Writing.{Entry, entry, entriesOf, sumOf, schemeOf, readerIn}
+use Rattle.nametable_format.specs.Format.{headerKind, headerLength, mostEntries, entryLength, labelCapacity, textCapacity, labelStart, countOf, tableLength, entryAt, kindOf, readerOf, lengthOf, labelIn, schemeIn}
+use Rattle.nametable_write.specs.Writing.{Entry, entry, entriesOf, sumOf, schemeOf, readerIn}
 
 -- the kind is no scheme's
 abbrev pub UnknownKind : List ℕ → Type 0

@@ -5,9 +5,9 @@ use mathlib.Core.List.{List, [], _∷_, _++_}
 use lib.ListN.{length, take, drop}
 use Rattle.basis.specs.Rows.{at}
 use Rattle.scheme.specs.Naming as naming
-use Rattle.nametable.specs.Format.{countOf, entryAt, readerOf, schemeIn}
+use Rattle.nametable_format.specs.Format.{countOf, entryAt, readerOf, schemeIn}
 use Rattle.nametable.specs.Answer.{textIn}
-use Rattle.nametable.specs.Writing.{Entry, entry, sumOf}
+use Rattle.nametable_write.specs.Writing.{Entry, entry, sumOf}
 
 -- an entry as it is read: its reader number, the number of its scheme, its text
 unfoldable pub entryIn : List ℕ → Entry

@@ -13,7 +13,7 @@ use Rattle.scheme.specs.Naming.{numberOf, letterOf}
 use Rattle.scheme.specs.declared.Scheme.{Scheme}
 use Rattle.scheme.proofs.Naming.{same-number}
 use Rattle.scheme.proofs.Coding.{decoded-low}
-use Rattle.nametable.specs.Format.{textCapacity, entryAt, readerOf, schemeIn, labelIn}
+use Rattle.nametable_format.specs.Format.{textCapacity, entryAt, readerOf, schemeIn, labelIn}
 use Rattle.nametable.specs.Answer.{textIn, entryText, judgedEntryOutcome, entryOutcome, entryFrom}
 use Rattle.nametable.specs.declared.EntryAnswer.{EntryAnswer}
 use Rattle.nametable.specs.declared.EntryAnswer.the-variants.{Entry, Error}

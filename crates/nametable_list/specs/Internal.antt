@@ -4,7 +4,7 @@ use mathlib.Core.Path.{_≡_}
 use mathlib.Core.List.{List}
 use lib.ListN.{length}
 use Rattle.basis.specs.Outcome.{done}
-use Rattle.nametable.specs.Format.{textCapacity}
+use Rattle.nametable_format.specs.Format.{textCapacity}
 use Rattle.nametable.specs.Answer.{judgedEntryOutcome, entryText}
 
 -- the entry at the index is found, given the room

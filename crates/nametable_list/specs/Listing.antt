@@ -3,7 +3,7 @@ use Prim.Native.Nat.{ℕ, zero, suc}
 use mathlib.Core.List.{List, [], _++_}
 use Rattle.basis.specs.Outcome.{Outcome, done, refused}
 use Rattle.scheme.specs.Naming.{letterOf}
-use Rattle.nametable.specs.Format.{entryAt, readerOf, schemeIn}
+use Rattle.nametable_format.specs.Format.{entryAt, readerOf, schemeIn}
 use Rattle.nametable.specs.Answer.{readOutcome, entryText}
 use Rattle.report.specs.Lines.{listLine, refusedAtLine}
 

@@ -1,4 +1,4 @@
-// The two schemes: their numbers, kinds of record and letters, the default, and encoding and decoding by scheme.
+// The two schemes: their numbers, kinds of entry and letters, the default, and encoding and decoding by scheme.
 use basis::BytesAnswer;
 use utf16::PointsAnswer;
 ghost use mathlib.Core.Path.{_≡_};
@@ -14,7 +14,7 @@ pub enum Scheme {
     Lace,
 }
 
-// What a number or a kind of record names.
+// What a number or a kind of entry names.
 pub enum Named {
     Known(Scheme),
     Unknown,
@@ -30,7 +30,7 @@ pub fn number(scheme: Scheme) -> u32
     }
 }
 
-// The kind of the scheme's records.
+// The kind of the scheme's entries.
 pub fn kind(scheme: Scheme) -> u8
     ensures { λ r. ⌜ r ≡ kindOf scheme ⌝ }
 {
@@ -76,7 +76,7 @@ pub fn of_number(number: u32) -> Named
     of_own_number(number)
 }
 
-// The scheme that a kind of record names.
+// The scheme that a kind of entry names.
 pub fn of_kind(kind: u8) -> Named
     ensures { λ r. ⌜ r ≡ kindNames kind ⌝ }
 {

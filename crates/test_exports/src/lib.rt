@@ -17,9 +17,9 @@ ghost use Rattle.ascii.specs.Ldh.{isHostLabel};
 ghost use Rattle.lace.specs.Encoding.{labelOf as laceLabelOf};
 ghost use Rattle.lace.specs.Decoding.{textOf as laceTextOf};
 ghost use Rattle.lace.specs.Answer.{encodeOutcome as laceEncodeOutcome, decodeOutcome as laceDecodeOutcome};
-ghost use Rattle.nametable.specs.Format.{entryAt};
+ghost use Rattle.nametable_format.specs.Format.{entryAt};
 ghost use Rattle.nametable.specs.Answer.{readOutcome, findOutcome, judgedEntryOutcome, entryFrom, entryText};
-ghost use Rattle.nametable.specs.Writing.{entriesOf, writeOutcome, tableOf};
+ghost use Rattle.nametable_write.specs.Writing.{entriesOf, writeOutcome, tableOf};
 ghost use Rattle.test_exports.specs.Answer.{numbersOf, entryNumbersOf, answerAfter};
 
 // Exports `utf16::to_units`.

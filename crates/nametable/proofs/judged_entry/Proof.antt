@@ -2,7 +2,7 @@
 -- then the entry by itself.
 use mathlib.Core.Path.{refl}
 use borrow.Author.Needs.{needs}
-use Rattle.nametable.specs.Format.{countOf}
+use Rattle.nametable_format.specs.Format.{countOf}
 use Rattle.nametable.proofs.EntryLaws.{refusal-answers}
 use Rattle.nametable.proofs.TableLaws.{judged-no-room, judged-no-header, judged-no-entry, judged-cut, judged-read, part-read}
 use Rattle.nametable.proofs.judged_entry.Statement.{statement}

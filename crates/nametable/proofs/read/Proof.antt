@@ -2,7 +2,7 @@
 use mathlib.Core.Path.{sym, _∙_}
 use native.Mathlib.Omega.{arith}
 use Rattle.basis.specs.declared.ErrorCode.the-variants.{Truncated, Malformed}
-use Rattle.nametable.specs.Format.{countOf}
+use Rattle.nametable_format.specs.Format.{countOf}
 use Rattle.nametable.proofs.TableLaws.{empty-table, other-kind, short-header, no-entries, many-entries, cut-table, long-table, by-entries, table-answers}
 use borrow.Author.Needs.{needs}
 use Rattle.nametable.proofs.read.Statement.{statement}

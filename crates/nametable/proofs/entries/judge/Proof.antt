@@ -3,9 +3,10 @@ use Prim.Native.Nat.{_-_, _≤_}
 use mathlib.Core.Path.{_≡_, sym, _∙_}
 use native.Mathlib.Omega.{arith}
 use lib.ListN.{drop}
-use Rattle.nametable.specs.Format.{headerLength, tableLength}
+use Rattle.nametable_format.specs.Format.{headerLength, tableLength}
+use Rattle.nametable_format.proofs.Parts.{entry-part-long}
 use Rattle.nametable.specs.Answer.{tableOutcome, entriesJudged}
-use Rattle.nametable.proofs.TableLaws.{part-long, turn-stops, turn-goes, none-left}
+use Rattle.nametable.proofs.TableLaws.{turn-stops, turn-goes, none-left}
 use borrow.Author.Needs.{needs}
 use Rattle.nametable.proofs.entries.judge.Statement.{statement}
 use Rattle.nametable.proofs.entries.judge.Tie as tie
@@ -38,7 +39,7 @@ judge-spec =
     (λ c. let n = c .before .args .count in let z : n - 0 ≡ n = omega arith in (omega arith, omega arith, rw z))
     (λ c. omega arith) (λ c. omega arith) (λ c. omega arith) (λ c. omega arith) (λ c. omega arith)
     (λ c. omega arith)
-    (λ c κs. let l = c .before .before in part-long (l .before .before .args .table .now) (l .loop .i) (omega arith))
+    (λ c κs. let l = c .before .before in entry-part-long (l .before .before .args .table .now) (tableLength (l .loop .i)) (omega arith))
     (λ c. search needs) (λ c κs. search needs) returns (λ c. search needs) (λ c. omega arith)
     (λ c. omega arith) (λ c. omega arith) (λ c. omega arith) loop-again
     (λ c. sym (none-left _ _ _ _ _ (c .loop-test .left)) ∙ c .before .loop .inv .2))

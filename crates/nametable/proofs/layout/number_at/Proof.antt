@@ -2,7 +2,7 @@
 use Prim.Native.Nat.{_+_}
 use native.Mathlib.Numerals.{add-one}
 use native.Mathlib.Omega.{arith}
-use Rattle.nametable.specs.Format.{numberAt}
+use Rattle.nametable_format.specs.Format.{numberAt}
 use borrow.Author.Needs.{needs}
 use Rattle.nametable.proofs.layout.number_at.Statement.{statement}
 use Rattle.nametable.proofs.layout.number_at.Tie as tie

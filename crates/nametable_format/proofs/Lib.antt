@@ -1,0 +1,2 @@
+-- The laws on parts of a table.
+pub mod Parts

@@ -1,0 +1,3 @@
+-- What writing a name table does.
+pub mod Writing
+pub mod Internal
