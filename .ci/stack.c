@@ -68,7 +68,7 @@ int main(void)
                 text[2 * i] = shape == 0 ? 0x00 : shape == 1 ? 0x04 : (uint8_t)(4 + i % 2);
                 text[2 * i + 1] = shape == 0 ? 0x61 : 0x31;
             }
-            for (uint32_t scheme = 1; scheme <= 2; scheme++) {
+            for (uint32_t scheme = 1; scheme <= 3; scheme++) {
                 struct call written = {.kind = WRITE, .scheme = scheme, .input = text, .length = 2 * units};
                 size_t need = used(&written, stack);
                 most[WRITE] = need > most[WRITE] ? need : most[WRITE];
@@ -80,7 +80,7 @@ int main(void)
             }
         }
     }
-    if (most[WRITE] > 856 || most[READ] > 456) {
+    if (most[WRITE] > 1312 || most[READ] > 3896) {
         fprintf(stderr, "stack: %zu bytes to write, %zu to read\n", most[WRITE], most[READ]);
         return 1;
     }

@@ -1,4 +1,4 @@
-/* Writes U+00FC under both schemes, reads it back, and shows what is refused. It must print expected.txt. */
+/* Writes U+00FC under each scheme, reads it back, and shows what is refused. It must print expected.txt. */
 #include <inttypes.h>
 #include <stdio.h>
 #include <string.h>
@@ -66,10 +66,12 @@ int main(void)
     read_label(DISTELHUT_SCHEME_ALTDUDE, "3n");
     write_label(DISTELHUT_SCHEME_LACE, u_umlaut, 2);
     read_label(DISTELHUT_SCHEME_LACE, "lq--74apy");
+    write_label(DISTELHUT_SCHEME_BRACE, u_umlaut, 2);
+    read_label(DISTELHUT_SCHEME_BRACE, "22zi-8q9");  /* coded characters in either case */
     write_label(DISTELHUT_SCHEME_DEFAULT, u_umlaut, 2);
     read_label(DISTELHUT_SCHEME_DEFAULT, "3N");      /* capitals are read as small letters */
     read_label(DISTELHUT_SCHEME_LACE, "lq--74ap");   /* the last byte was lost */
-    write_label(3, u_umlaut, 2);                     /* no such scheme */
+    write_label(9, u_umlaut, 2);                     /* no such scheme */
     write_label(DISTELHUT_SCHEME_LACE, u_umlaut, 1); /* half a unit */
     return 0;
 }

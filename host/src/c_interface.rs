@@ -1,6 +1,7 @@
 //! The C interface (01's face of the firmware): a scheme number and byte
 //! slices, one number back.
 
+use crate::brace;
 use crate::error::{error, Error, ErrorCode};
 use crate::point::LABEL_MAX;
 use crate::scheme::Scheme;
@@ -49,9 +50,10 @@ fn try_write(scheme: u32, text: &[u8], label: &mut [u8]) -> Result<usize, Error>
     }
     let unit = |pair: &[u8]| u16::from_be_bytes([pair[0], pair[1]]);
     let units: Vec<u16> = text.chunks(2).map(unit).collect();
-    match points_of(&units) {
-        Ok(points) => scheme.encode(&points, label),
-        Err(_) => error(ErrorCode::UnpairedSurrogate),
+    match (points_of(&units), scheme) {
+        (Err(_), _) => error(ErrorCode::UnpairedSurrogate),
+        (Ok(_), Scheme::Brace) => brace::encode(&units, label),
+        (Ok(points), _) => scheme.encode(&points, label),
     }
 }
 
@@ -62,15 +64,20 @@ fn try_read(scheme: u32, label: &[u8], text: &mut [u8]) -> Result<usize, Error> 
     if text.len() < TEXT_MAX {
         return error(ErrorCode::Capacity);
     }
-    let mut points = [0; LABEL_MAX];
-    let count = scheme.decode(label, &mut points)?;
-    let bytes = bytes_of(&points[..count]);
+    let units = decoded_units(scheme, label)?;
+    let bytes: Vec<u8> = units.iter().flat_map(|unit| unit.to_be_bytes()).collect();
     text[..bytes.len()].copy_from_slice(&bytes);
     Ok(bytes.len())
 }
 
-/// The big-endian UTF-16 bytes of a text that a scheme has read.
-fn bytes_of(points: &[u32]) -> Vec<u8> {
-    let units = units_of(points).expect("a scheme answers points only");
-    units.iter().flat_map(|unit| unit.to_be_bytes()).collect()
+/// The units of a label: BRACE's own, or those of the points that a scheme answers.
+fn decoded_units(scheme: Scheme, label: &[u8]) -> Result<Vec<u16>, Error> {
+    if scheme == Scheme::Brace {
+        let mut units = [0; LABEL_MAX];
+        let count = brace::decode(label, &mut units)?;
+        return Ok(units[..count].to_vec());
+    }
+    let mut points = [0; LABEL_MAX];
+    let count = scheme.decode(label, &mut points)?;
+    Ok(units_of(&points[..count]).expect("a scheme answers points only"))
 }

@@ -302,14 +302,17 @@ impl fmt::Display for Tally {
 pub type Comparison = fn(usize, u64, &[Implementation; 2]) -> Result<String, String>;
 
 macro_rules! comparison {
-    ($name:ident, $call:ident, $codes:expr) => {
-        (stringify!($name), |count, seed, two| {
+    ($function:ident, $call:ident, $codes:expr) => {
+        comparison!(stringify!($function), $function, $call, $codes)
+    };
+    ($name:expr, $function:ident, $call:ident, $codes:expr) => {
+        ($name, |count, seed, two| {
             let pair = Pair {
-                name: stringify!($name),
+                name: $name,
                 codes: &$codes,
                 call: calls::$call,
                 implementations: two.map(|one| one.name),
-                functions: two.map(|one| one.$name),
+                functions: two.map(|one| one.$function),
             };
             pair.compare(count, seed)
         })
@@ -317,18 +320,32 @@ macro_rules! comparison {
 }
 
 /// The functions that are compared, each with the calls that are made of it and
-/// with all the codes that it can answer with.
-pub const COMPARISONS: [(&str, Comparison); 12] = [
+/// with all the codes that it can answer with. Those of the table are compared
+/// again on tables and lists that hold BRACE, those of the C interface on scheme 3.
+pub const COMPARISONS: [(&str, Comparison); 20] = [
     comparison!(to_units, to_units, [1, 4]),
     comparison!(to_points, to_points, [1, 10]),
     comparison!(altdude_encode, encode, [1, 2, 3, 4, 5]),
     comparison!(altdude_decode, altdude_decode, [1, 2, 3, 5, 7, 9]),
     comparison!(lace_encode, encode, [1, 2, 3, 4, 6]),
     comparison!(lace_decode, lace_decode, [1, 2, 3, 6, 7, 8, 9]),
+    comparison!(brace_encode, brace_encode, [1, 2, 3, 10]),
+    comparison!(brace_decode, brace_decode, [1, 2, 3, 5, 7, 9]),
     comparison!(table_read, table_read, [5, 6, 7, 8, 9, 13, 14]),
     comparison!(table_entry, table_entry, [1, 5, 6, 7, 8, 9, 13, 14]),
     comparison!(table_judged_entry, table_entry, [1, 5, 6, 7, 8, 9, 13, 14]),
     comparison!(table_write, table_write, [1, 2, 3, 4, 5, 6, 14]),
     comparison!(write, write, [1, 2, 3, 5, 6, 10, 11, 12]),
     comparison!(read, read, [1, 2, 3, 5, 6, 7, 8, 9, 11]),
+    comparison!("table_read, BRACE", table_read, brace_table_read, [5, 6, 7, 8, 9, 13, 14]),
+    comparison!("table_entry, BRACE", table_entry, brace_table_entry, [1, 5, 6, 7, 8, 9, 13, 14]),
+    comparison!(
+        "table_judged_entry, BRACE",
+        table_judged_entry,
+        brace_table_entry,
+        [1, 5, 6, 7, 8, 9, 13, 14]
+    ),
+    comparison!("table_write, BRACE", table_write, brace_table_write, [1, 2, 3, 4, 5, 6, 14]),
+    comparison!("write, BRACE", write, brace_write, [1, 2, 3, 10, 12]),
+    comparison!("read, BRACE", read, brace_read, [1, 2, 3, 5, 7, 9]),
 ];

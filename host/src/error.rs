@@ -11,7 +11,7 @@ pub enum ErrorCode {
     TooLong = 3,
     /// A number is no point.
     NotAPoint = 4,
-    /// An AltDUDE text or label begins or ends with a hyphen.
+    /// A text or label of AltDUDE, or a label of BRACE, begins or ends with a hyphen.
     EdgeHyphen = 5,
     /// A LACE text is a host label itself.
     HostLabel = 6,
@@ -19,7 +19,7 @@ pub enum ErrorCode {
     OutsideAlphabet = 7,
     /// The LACE prefix is missing.
     NoPrefix = 8,
-    /// The rules of form do not admit the label.
+    /// The rules of form do not admit the label, or it is no lawful label of BRACE.
     NotWellFormed = 9,
     /// A surrogate is unpaired.
     UnpairedSurrogate = 10,

@@ -5,7 +5,7 @@ use crate::c_interface::{self, ERROR_BASE};
 use crate::error::Error;
 use crate::scheme::Scheme;
 use crate::utf16::{self, PointCount, UnitCount};
-use crate::{altdude, lace, nametable};
+use crate::{altdude, brace, lace, nametable};
 
 /// Code (0 when done), position, count, and for an entry of a table reader
 /// number and scheme number.
@@ -32,6 +32,8 @@ pub struct Implementation {
     pub altdude_decode: Function<u8, u32>,
     pub lace_encode: Function<u32, u8>,
     pub lace_decode: Function<u8, u32>,
+    pub brace_encode: Function<u16, u8>,
+    pub brace_decode: Function<u8, u16>,
     pub table_read: Function<u8, u8>,
     pub table_entry: Function<u8, u32>,
     pub table_judged_entry: Function<u8, u32>,
@@ -41,19 +43,21 @@ pub struct Implementation {
 }
 
 impl Implementation {
-    /// The function that encodes under a scheme.
-    pub fn encode(&self, scheme: Scheme) -> Function<u32, u8> {
+    /// The function that encodes points under a scheme. BRACE takes units.
+    pub fn encode(&self, scheme: Scheme) -> Option<Function<u32, u8>> {
         match scheme {
-            Scheme::AltDude => self.altdude_encode,
-            Scheme::Lace => self.lace_encode,
+            Scheme::AltDude => Some(self.altdude_encode),
+            Scheme::Lace => Some(self.lace_encode),
+            Scheme::Brace => None,
         }
     }
 
-    /// The function that decodes under a scheme.
-    pub fn decode(&self, scheme: Scheme) -> Function<u8, u32> {
+    /// The function that decodes to points under a scheme. BRACE gives units.
+    pub fn decode(&self, scheme: Scheme) -> Option<Function<u8, u32>> {
         match scheme {
-            Scheme::AltDude => self.altdude_decode,
-            Scheme::Lace => self.lace_decode,
+            Scheme::AltDude => Some(self.altdude_decode),
+            Scheme::Lace => Some(self.lace_decode),
+            Scheme::Brace => None,
         }
     }
 }
@@ -73,6 +77,8 @@ pub const INDEPENDENT: Implementation = Implementation {
     altdude_decode: |label, _, text, answer| store(numbers(altdude::decode(label, text)), answer),
     lace_encode: |text, _, label, answer| store(numbers(lace::encode(text, label)), answer),
     lace_decode: |label, _, text, answer| store(numbers(lace::decode(label, text)), answer),
+    brace_encode: |units, _, label, answer| store(numbers(brace::encode(units, label)), answer),
+    brace_decode: |label, _, units, answer| store(numbers(brace::decode(label, units)), answer),
     table_read: |table, _, _, answer| store(numbers(nametable::read(table)), answer),
     table_entry: |table, index, text, answer| {
         store(entry_numbers(nametable::entry(table, index, text)), answer);

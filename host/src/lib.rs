@@ -5,6 +5,7 @@
 //! buffer is as it was, and after success it is so from the count on.
 
 pub mod altdude;
+pub mod brace;
 pub mod c_interface;
 pub mod compare;
 pub mod error;

@@ -1,5 +1,8 @@
 //! The papers' own examples, as data, and our own for 02's rule of host labels
-//! (`host_labels`). Nothing here is computed by the schemes.
+//! (`host_labels`). Nothing here is computed by the schemes. BRACE's are in
+//! `brace`.
+
+pub mod brace;
 
 use crate::nametable::{ENTRY_LENGTH, HEADER_KIND};
 use crate::scheme::Scheme;

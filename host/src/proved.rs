@@ -55,6 +55,22 @@ extern "C" {
         answer: *mut u64,
         answer_len: usize,
     );
+    fn test_brace_encode(
+        units: *const u16,
+        units_len: usize,
+        label: *mut u8,
+        label_len: usize,
+        answer: *mut u64,
+        answer_len: usize,
+    );
+    fn test_brace_decode(
+        label: *const u8,
+        label_len: usize,
+        units: *mut u16,
+        units_len: usize,
+        answer: *mut u64,
+        answer_len: usize,
+    );
     fn test_table_read(table: *const u8, table_len: usize, answer: *mut u64, answer_len: usize);
     fn test_table_entry(
         table: *const u8,
@@ -152,6 +168,8 @@ pub const PROVED: Implementation = Implementation {
     },
     lace_encode: |text, _, label, answer| call!(test_lace_encode, [text], [], [label, answer]),
     lace_decode: |label, _, text, answer| call!(test_lace_decode, [label], [], [text, answer]),
+    brace_encode: |units, _, label, answer| call!(test_brace_encode, [units], [], [label, answer]),
+    brace_decode: |label, _, units, answer| call!(test_brace_decode, [label], [], [units, answer]),
     table_read: |table, _, _, answer| call!(test_table_read, [table], [], [answer]),
     table_entry: |table, index, text, answer| {
         call!(test_table_entry, [table], [index], [text, answer])

@@ -43,6 +43,7 @@ fn numbers(scheme: Scheme) -> &'static [usize] {
     match scheme {
         Scheme::AltDude => &[0, 1],
         Scheme::Lace => &[2],
+        Scheme::Brace => &[3],
     }
 }
 
@@ -86,9 +87,9 @@ fn slips() {
 fn order_when_writing() {
     let a = |times: usize| [0x00, 0x61].repeat(times);
     let surrogates = |times: usize| [0xD8, 0x00].repeat(times);
-    let cases: [(usize, &[u8], usize, u64); 26] = [
+    let cases: [(usize, &[u8], usize, u64); 34] = [
         (9, &[0xD8; 255], 0, 11),
-        (3, &[0x00, 0xFC], 63, 11),
+        (4, &[0x00, 0xFC], 63, 11),
         (u32::MAX as usize, &[], 62, 11),
         (1, &[0x00], 0, 1),
         (2, &[0x00], 62, 1),
@@ -113,6 +114,14 @@ fn order_when_writing() {
         (1, &a(64), 63, 3),
         (0, &[0x04, 0x31].repeat(126), 63, 3),
         (2, &[0x04, 0x31].repeat(126), 63, 3),
+        (3, &[0x00], 62, 1),
+        (3, &[0xD8; 253], 63, 12),
+        (3, &[], 63, 2),
+        (3, &surrogates(127), 63, 3),
+        (3, &surrogates(126), 63, 10),
+        (3, &[a(64), surrogates(1)].concat(), 63, 10),
+        (3, &a(64), 63, 3),
+        (3, &[0x00, 0xFC].repeat(41), 63, 3),
     ];
     for one in implementations() {
         for (scheme, text, capacity, code) in cases {
@@ -125,10 +134,10 @@ fn order_when_writing() {
 // Each error of reading where others stand behind it.
 #[test]
 fn order_when_reading() {
-    let cases: [(usize, &[u8], usize, u64); 19] = [
+    let cases: [(usize, &[u8], usize, u64); 26] = [
         (9, &[0xFF; 64], 0, 11),
         (u32::MAX as usize, b"3n", 252, 11),
-        (3, b"", 0, 11),
+        (4, b"", 0, 11),
         (1, b"", 251, 1),
         (0, b"", 251, 1),
         (2, b"lq--74apy", 0, 1),
@@ -145,6 +154,13 @@ fn order_when_reading() {
         (2, b"lq--", 252, 9),
         (2, b"lq--aiagcyr", 252, 9),
         (2, b"lq--aiagcyq", 252, 6),
+        (3, b"22ZI-8Q9", 251, 1),
+        (3, b"", 252, 2),
+        (3, &[0xFF; 64], 252, 3),
+        (3, b"-a.b", 252, 7),
+        (3, b"-ab", 252, 5),
+        (3, b"-a.b-8Q9", 252, 9),
+        (3, b"22ZJ-8Q9", 252, 9),
     ];
     for one in implementations() {
         for (scheme, label, capacity, code) in cases {
@@ -174,6 +190,18 @@ fn a_pair_is_one_point() {
     for one in implementations() {
         assert_eq!(written(&one, 1, &pair, 63), Ok(b"t933g".to_vec()));
         assert_eq!(read(&one, 1, b"t933g", 252), Ok(pair.clone()));
+    }
+}
+
+#[test]
+fn brace_has_scheme_3() {
+    for one in implementations() {
+        let pair = vec![0xD8, 0x3E, 0xDD, 0xF6];
+        assert_eq!(written(&one, 3, &pair, 63), Ok(b"YS9VGZE-8Q9".to_vec()));
+        assert_eq!(read(&one, 3, b"yS9vgzE-8q9", 252), Ok(pair));
+        assert_eq!(written(&one, 3, &[0x00, 0x41], 63), Ok(b"A".to_vec()));
+        assert_eq!(read(&one, 3, &[b'A'; 63], 252), Ok([0x00, 0x41].repeat(63)));
+        assert_eq!(read(&one, 3, b"22zI-Ab-8q9", 252), Ok(vec![0, 0xFC, 0, 0x41, 0, 0x62]));
     }
 }
 

@@ -1,8 +1,9 @@
 //! The comparison itself, without the proved library: the independent
 //! implementation agrees with itself, and one with a planted error is found out.
 
+use distelhut_host::brace::{loose_text, style_of, symbols_in, Style};
 use distelhut_host::compare::COMPARISONS;
-use distelhut_host::functions::{Function, Implementation, INDEPENDENT};
+use distelhut_host::functions::{store, Function, Implementation, INDEPENDENT};
 use distelhut_host::point::is_ldh;
 
 const CASES: usize = 20_000;
@@ -242,6 +243,255 @@ fn errors_of_lace_decode() {
                 ..INDEPENDENT
             },
         ],
+    );
+}
+
+/// The style that a text has if BRACE's rule of mixed style were another: the bits
+/// of a unit in the complementary half-row, the half-row chosen on ties, and the
+/// style chosen if both are as long.
+fn other_style(units: &[u16], nine: usize, lowest: bool, no_row_on_ties: bool) -> Style {
+    if let style @ (Style::HalfRow(_) | Style::FullRow(_)) = style_of(units) {
+        return style;
+    }
+    let codes: Vec<u16> = units.iter().copied().filter(|&unit| !is_ldh(unit.into())).collect();
+    let length = |half_row: u16| {
+        let count = |wanted: u16| codes.iter().filter(|&code| code >> 7 == wanted).count();
+        let (chosen, near) = (count(half_row), count(half_row ^ 1));
+        (15 + 18 * (codes.len() - chosen - near) + 8 * chosen + nine * near) / 5
+    };
+    let key = |half_row: u16| (length(half_row), if lowest { half_row } else { !half_row });
+    let no_row = (6 + 16 * codes.len()) / 5;
+    match codes.iter().map(|code| code >> 7).min_by_key(|&half_row| key(half_row)) {
+        Some(best) if no_row > length(best) => Style::Mixed(best),
+        Some(best) if no_row == length(best) && !no_row_on_ties => Style::Mixed(best),
+        _ => Style::NoRow,
+    }
+}
+
+/// Encodes with BRACE, and where the label is not plain in a given style.
+fn in_style(units: &[u16], label: &mut [u8], answer: &mut [u64], style: Style) {
+    let mut five = [0; 5];
+    (INDEPENDENT.brace_encode)(units, 0, label, &mut five);
+    let plain = units.len() as u64 == five[2];
+    let symbols = symbols_in(style, units);
+    if five[0] == 0 && !plain && symbols.len() <= 63 {
+        five[2] = symbols.len() as u64;
+        symbols.iter().zip(label).for_each(|(symbol, byte)| *byte = symbol.byte());
+    }
+    store(five, answer);
+}
+
+#[test]
+fn errors_of_brace_encode() {
+    found(
+        "brace_encode",
+        &[
+            // a unit of the complementary half-row is counted as eight bits
+            Implementation {
+                brace_encode: |units, _, label, answer| {
+                    in_style(units, label, answer, other_style(units, 8, true, true));
+                },
+                ..INDEPENDENT
+            },
+            // the highest half-row is chosen on ties
+            Implementation {
+                brace_encode: |units, _, label, answer| {
+                    in_style(units, label, answer, other_style(units, 9, false, true));
+                },
+                ..INDEPENDENT
+            },
+            // mixed style is chosen on ties
+            Implementation {
+                brace_encode: |units, _, label, answer| {
+                    in_style(units, label, answer, other_style(units, 9, true, false));
+                },
+                ..INDEPENDENT
+            },
+            // a text of LDH alone is in half-row style
+            Implementation {
+                brace_encode: |units, _, label, answer| {
+                    let ldh = units.iter().all(|&unit| is_ldh(unit.into()));
+                    let style = if ldh { Style::HalfRow(0) } else { style_of(units) };
+                    in_style(units, label, answer, style);
+                },
+                ..INDEPENDENT
+            },
+            // the signature is known in capitals only
+            Implementation {
+                brace_encode: |units, _, label, answer| {
+                    let unsigned: Vec<u16> =
+                        units.iter().map(|&unit| if unit == 0x71 { 0x70 } else { unit }).collect();
+                    let small = units.ends_with(&[0x2D, 0x38, 0x71, 0x39]);
+                    let units = if small { &unsigned } else { units };
+                    (INDEPENDENT.brace_encode)(units, 0, label, answer);
+                },
+                ..INDEPENDENT
+            },
+            // 3 is reported before 10
+            Implementation {
+                brace_encode: |units, _, label, answer| {
+                    let five = numbers(INDEPENDENT.brace_encode, units, 0, label, answer);
+                    if five[0] == 10 && units.len() > 63 {
+                        store([3, 0, 0, 0, 0], answer);
+                    }
+                },
+                ..INDEPENDENT
+            },
+        ],
+    );
+}
+
+#[test]
+fn errors_of_brace_decode() {
+    found(
+        "brace_decode",
+        &[
+            // the label is not compared with that of its text
+            Implementation {
+                brace_decode: |label, _, units, answer| {
+                    let five = numbers(INDEPENDENT.brace_decode, label, 0, units, answer);
+                    let coded = &label[..label.len().saturating_sub(4)];
+                    if let (9, Some(text)) = (five[0], loose_text(coded)) {
+                        units[..text.len()].copy_from_slice(&text);
+                        store([0, 0, text.len() as u64, 0, 0], answer);
+                    }
+                },
+                ..INDEPENDENT
+            },
+            // copied letters are made small
+            Implementation {
+                brace_decode: |label, _, units, answer| {
+                    let five = numbers(INDEPENDENT.brace_decode, label, 0, units, answer);
+                    for unit in &mut units[..five[2] as usize] {
+                        *unit += if (0x41..0x5B).contains(unit) { 0x20 } else { 0 };
+                    }
+                },
+                ..INDEPENDENT
+            },
+            // base-32 characters are known in capitals only
+            Implementation {
+                brace_decode: |label, _, units, answer| {
+                    let label = if label.starts_with(b"s-") { b"22-8Q9" } else { label };
+                    (INDEPENDENT.brace_decode)(label, 0, units, answer);
+                },
+                ..INDEPENDENT
+            },
+            // 7 is reported of a label with the signature
+            Implementation {
+                brace_decode: |label, _, units, answer| {
+                    let five = numbers(INDEPENDENT.brace_decode, label, 0, units, answer);
+                    let outside = label.iter().position(|&byte| !is_ldh(byte.into()));
+                    if let (9, Some(position)) = (five[0], outside) {
+                        store([7, position as u64, 0, 0, 0], answer);
+                    }
+                },
+                ..INDEPENDENT
+            },
+            // an unpaired surrogate is reported as such
+            Implementation {
+                brace_decode: |label, _, units, answer| {
+                    let five = numbers(INDEPENDENT.brace_decode, label, 0, units, answer);
+                    let coded = &label[..label.len().saturating_sub(4)];
+                    let text = loose_text(coded).unwrap_or_default();
+                    if five[0] == 9 && String::from_utf16(&text).is_err() {
+                        store([10, 0, 0, 0, 0], answer);
+                    }
+                },
+                ..INDEPENDENT
+            },
+        ],
+    );
+}
+
+#[test]
+fn errors_of_tables_with_brace() {
+    // units are counted and not points
+    found(
+        "table_entry, BRACE",
+        &[Implementation {
+            table_entry: |table, index, text, answer| {
+                let five = numbers(INDEPENDENT.table_entry, table, index, text, answer);
+                let points = text.iter().take(five[2] as usize);
+                let above = points.filter(|&&point| point > 0xFFFF).count() as u64;
+                if five[4] == 3 && above > 0 {
+                    store([0, 0, five[2] + above, five[3], 3], answer);
+                }
+            },
+            ..INDEPENDENT
+        }],
+    );
+    // BRACE is told as LACE
+    found(
+        "table_judged_entry, BRACE",
+        &[Implementation {
+            table_judged_entry: |table, index, text, answer| {
+                (INDEPENDENT.table_judged_entry)(table, index, text, answer);
+                if answer.len() >= 5 && answer[4] == 3 {
+                    answer[4] = 2;
+                }
+            },
+            ..INDEPENDENT
+        }],
+    );
+    // a label of BRACE is judged as one of LACE
+    found(
+        "table_read, BRACE",
+        &[Implementation {
+            table_read: |table, _, none, answer| {
+                let mut table = table.to_vec();
+                for kind in table.iter_mut().skip(3).step_by(67).filter(|kind| **kind == 0x42) {
+                    *kind = 0x4C;
+                }
+                (INDEPENDENT.table_read)(&table, 0, none, answer);
+            },
+            ..INDEPENDENT
+        }],
+    );
+    // 10 is reported and not 4
+    found(
+        "table_write, BRACE",
+        &[Implementation {
+            table_write: |readers, schemes, lengths, points, table, answer| {
+                let mut five = [0; 5];
+                let function = INDEPENDENT.table_write;
+                function(readers, schemes, lengths, points, table, &mut five);
+                if five[0] == 4 && schemes[five[1] as usize] == 3 {
+                    five[0] = 10;
+                }
+                store(five, answer);
+            },
+            ..INDEPENDENT
+        }],
+    );
+}
+
+#[test]
+fn errors_of_the_c_interface_with_brace() {
+    // more than 63 units are cut to 63
+    found(
+        "write, BRACE",
+        &[Implementation {
+            write: |text, scheme, label, answer| {
+                let text = if text.len() % 2 == 0 { &text[..text.len().min(126)] } else { text };
+                (INDEPENDENT.write)(text, scheme, label, answer);
+            },
+            ..INDEPENDENT
+        }],
+    );
+    // room for 126 bytes is enough
+    found(
+        "read, BRACE",
+        &[Implementation {
+            read: |label, scheme, text, answer| {
+                if !(126..252).contains(&text.len()) {
+                    return (INDEPENDENT.read)(label, scheme, text, answer);
+                }
+                let mut longer = [&*text, &[0; 252]].concat();
+                (INDEPENDENT.read)(label, scheme, &mut longer, answer);
+                text.copy_from_slice(&longer[..text.len()]);
+            },
+            ..INDEPENDENT
+        }],
     );
 }
 

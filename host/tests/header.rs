@@ -28,6 +28,7 @@ fn constants_are_the_papers() {
         ("SCHEME_DEFAULT", 0),
         ("SCHEME_ALTDUDE", Scheme::AltDude.number()),
         ("SCHEME_LACE", Scheme::Lace.number()),
+        ("SCHEME_BRACE", Scheme::Brace.number()),
         ("SIZE_LABEL", LABEL_MAX as u32),
         ("SIZE_TEXT", TEXT_MAX as u32),
         ("ERR_BASE", ERROR_BASE),

@@ -121,7 +121,7 @@ fn each_rule_of_an_entry() {
 
 #[test]
 fn an_error_of_a_label_has_the_index_of_the_entry() {
-    let labels: [(u8, &[u8], u64); 9] = [
+    let labels: [(u8, &[u8], u64); 14] = [
         (0x41, b"3l", 7),
         (0x41, b"-b", 5),
         (0x41, b"sb", 9),
@@ -131,6 +131,11 @@ fn an_error_of_a_label_has_the_index_of_the_entry() {
         (0x4C, b"lq--", 9),
         (0x4C, b"lq--74apz", 9),
         (0x4C, b"lq--aiagcyq", 6),
+        (0x42, b"-a.b", 7),
+        (0x42, b"ab-", 5),
+        (0x42, b"a.b-8Q9", 9),
+        (0x42, b"22ZJ-8q9", 9),
+        (0x42, b"8S9S-8Q9", 9),
     ];
     for one in implementations() {
         for (kind, label, code) in labels {
@@ -148,6 +153,25 @@ fn a_lace_name_may_begin_with_a_hyphen() {
     for one in implementations() {
         assert_eq!(verdict(&one, &table), Ok(1));
         assert_eq!(entry(&one, &table, 0), Ok((7, 2, vec![0x2D, 0x61, 0x62])));
+    }
+}
+
+#[test]
+fn brace_has_kind_42() {
+    let table = table_of(&[
+        (0x42, 7, b"22zI-Ab-8q9".to_vec()),
+        (0x42, 8, b"YS9VGZE-8Q9".to_vec()),
+        (0x42, 9, b"3n".to_vec()),
+        (0x42, 10, b"lq--74apy".to_vec()),
+    ]);
+    let plain = b"lq--74apy".map(u32::from).to_vec();
+    for one in implementations() {
+        assert_eq!(verdict(&one, &table), Ok(4));
+        assert_eq!(entry(&one, &table, 0), Ok((7, 3, vec![0xFC, 0x41, 0x62])));
+        assert_eq!(entry(&one, &table, 1), Ok((8, 3, vec![0x1F9F6])));
+        assert_eq!(entry(&one, &table, 2), Ok((9, 3, vec![0x33, 0x6E])));
+        assert_eq!(entry(&one, &table, 3), Ok((10, 3, plain.clone())));
+        assert_eq!(judged_entry(&one, &table, 3), Ok((10, 3, plain.clone())));
     }
 }
 

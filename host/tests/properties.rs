@@ -1,7 +1,8 @@
 //! What must hold of every input, tried on generated and on all short ones.
 //!
 //! The drafts describe decoding as: decode loosely, encode again, compare. The
-//! library goes by the rules of form instead, so here the two are compared.
+//! library goes by the rules of form instead, so here the two are compared. What
+//! is tried of labels and texts is AltDUDE and LACE; BRACE has `tests/brace.rs`.
 
 use distelhut_host::generate::calls::capacity_around;
 use distelhut_host::generate::{labels, tables, texts, Source};
@@ -84,12 +85,10 @@ fn loose_lace(label: &[u8]) -> Option<Vec<u32>> {
     utf16::points_of(&units).ok()
 }
 
-/// Decoding as the drafts describe it: decode loosely, encode again, compare.
+/// Decoding as 003 and 004 describe it: decode loosely, encode again, compare.
 fn by_the_draft(scheme: Scheme, label: &[u8]) -> Option<Vec<u32>> {
-    let text = match scheme {
-        Scheme::AltDude => loose_altdude(label)?,
-        Scheme::Lace => loose_lace(label)?,
-    };
+    let loose = if scheme == Scheme::AltDude { loose_altdude } else { loose_lace };
+    let text = loose(label)?;
     let again = encoded(scheme, &text)?;
     same_but_for_case(&again, label).then_some(text)
 }
@@ -266,7 +265,7 @@ fn whole_tables_are_read_and_every_cut_is_13() {
     let mut source = Source::new(17);
     for turn in 0..60 {
         let entries = 1 + turn % 4;
-        let whole = tables::whole_table(&mut source, entries);
+        let whole = tables::whole_table(&mut source, entries, None);
         assert_eq!(nametable::read(&whole), Ok(entries));
         for length in 0..whole.len() {
             assert_eq!(nametable::read(&whole[..length]).unwrap_err().number(), 13);
@@ -278,7 +277,7 @@ fn whole_tables_are_read_and_every_cut_is_13() {
 fn an_entry_is_answered_only_from_a_readable_table() {
     let mut source = Source::new(18);
     for _ in 0..3000 {
-        let bytes = tables::table(&mut source);
+        let bytes = tables::table(&mut source, None);
         let index = source.below(6);
         let mut buffer = [0x5A; 63];
         let answer = nametable::entry(&bytes, index, &mut buffer);

@@ -7,6 +7,8 @@ use distelhut_host::functions::{implementations, Implementation};
 use distelhut_host::generate::lists::{lawful_entries, Entry, List};
 use distelhut_host::generate::{tables, Source};
 use distelhut_host::papers::{ever_changing, in_turn, sample_table, table_of};
+#[cfg(feature = "proved")]
+use distelhut_host::scheme::Scheme;
 use shared::{called, filled, numbers, Error};
 
 /// A text of so many small letters a.
@@ -147,12 +149,12 @@ fn the_sum_of_the_lengths_does_not_wrap() {
 
 #[test]
 fn each_refusal_of_an_entry() {
-    let bad: [(u16, u32, Vec<u32>, u64); 19] = [
+    let bad: [(u16, u32, Vec<u32>, u64); 25] = [
         (7, 1, a(1), 14),
         (6, 1, a(1), 14),
         (0, 1, a(1), 14),
         (8, 0, a(1), 14),
-        (8, 3, a(1), 14),
+        (8, 4, a(1), 14),
         (8, 9, a(1), 14),
         (8, 257, a(1), 14),
         (8, 258, a(1), 14),
@@ -167,6 +169,12 @@ fn each_refusal_of_an_entry() {
         (8, 2, a(63), 6),
         (8, 1, a(64), 3),
         (8, 2, vec![0x431; 300], 3),
+        (8, 259, a(1), 14),
+        (8, 3, Vec::new(), 2),
+        (8, 3, vec![0x2D, 0xD83E, 0xDDF6], 4),
+        (8, 3, a(64), 3),
+        (8, 3, vec![0xFC; 41], 3),
+        (8, 3, vec![0x1F9F6; 32], 3),
     ];
     for one in implementations() {
         for (reader, scheme, text, code) in &bad {
@@ -182,7 +190,7 @@ fn each_refusal_of_an_entry() {
 
 #[test]
 fn order_of_the_refusals_of_entries() {
-    let bad: [(Vec<Entry>, Error); 10] = [
+    let bad: [(Vec<Entry>, Error); 11] = [
         // An entry's label before the next one's number, and the number before the label.
         (vec![(7, 2, a(1)), (7, 1, a(1))], (6, 0)),
         (vec![(7, 1, a(1)), (7, 2, a(1))], (14, 1)),
@@ -194,6 +202,7 @@ fn order_of_the_refusals_of_entries() {
         (vec![(7, 1, vec![0x2D, 0xD800])], (4, 0)),
         (vec![(7, 2, [a(70), vec![0xD800]].concat())], (4, 0)),
         (vec![(7, 1, vec![0x2D; 70])], (5, 0)),
+        (vec![(7, 3, [a(70), vec![0xD800]].concat())], (4, 0)),
         // A later entry is not looked at before an earlier one.
         (vec![(7, 1, a(1)), (8, 1, a(64)), (8, 0, Vec::new())], (3, 1)),
         (vec![(7, 1, a(1)), (8, 1, a(1)), (8, 1, a(1)), (9, 1, Vec::new())], (14, 2)),
@@ -207,13 +216,16 @@ fn order_of_the_refusals_of_entries() {
 
 #[test]
 fn edges_are_written_and_read_back() {
-    let lists: [Vec<Entry>; 6] = [
+    let lists: [Vec<Entry>; 9] = [
         vec![(0, 1, a(1)), (65_535, 1, a(1))],
         vec![(65_535, 2, vec![0x2D, 0x61, 0x62])],
         vec![(255, 1, a(63)), (256, 2, vec![0x431; 34])],
         vec![(1, 1, in_turn(10)), (2, 2, ever_changing(17)), (3, 2, vec![0x2D; 34])],
         vec![(1, 1, vec![0x10FFFF]), (2, 2, vec![0x10FFFF])],
-        vec![(1, 1, vec![0]), (2, 2, vec![0])],
+        vec![(1, 1, vec![0]), (2, 2, vec![0]), (3, 3, vec![0])],
+        vec![(1, 3, a(63)), (2, 3, vec![0xFC; 40]), (3, 3, [vec![0xFC], a(54)].concat())],
+        vec![(1, 3, vec![0x2D, 0x61, 0x62]), (2, 3, vec![0x10FFFF]), (3, 1, a(1))],
+        vec![(1, 3, vec![0x41, 0xFC, 0x61]), (2, 3, vec![0x61, 0xFC, 0x41])],
     ];
     for one in implementations() {
         for entries in &lists {
@@ -229,7 +241,7 @@ fn generated_lists_are_read_back() {
     for one in implementations() {
         let mut source = Source::new(21);
         for turn in 0..3000 {
-            let entries = lawful_entries(&mut source, 1 + turn % 7);
+            let entries = lawful_entries(&mut source, 1 + turn % 7, None);
             let table = written(&one, &entries).unwrap();
             assert_eq!(entries_of(&one, &table), Ok(entries));
         }
@@ -241,14 +253,17 @@ fn what_is_read_is_written_again() {
     for one in implementations() {
         let mut source = Source::new(22);
         for turn in 0..3000 {
-            let table = tables::whole_table(&mut source, 1 + turn % 7);
+            let table = tables::whole_table(&mut source, 1 + turn % 7, None);
             let entries = entries_of(&one, &table).unwrap();
             assert_eq!(written(&one, &entries), Ok(table));
         }
-        // A label with a capital is written small.
+        // A label with a capital is written small, and BRACE's base-32 in capitals.
         let table = table_of(&[(0x41, 7, b"3N".to_vec()), (0x4C, 300, b"LQ--74apy".to_vec())]);
         let entries = entries_of(&one, &table).unwrap();
         assert_eq!(written(&one, &entries), Ok(sample_table()));
+        let entries = entries_of(&one, &table_of(&[(0x42, 7, b"22zi-Ab-8q9".to_vec())])).unwrap();
+        let table = table_of(&[(0x42, 7, b"22ZI-Ab-8Q9".to_vec())]);
+        assert_eq!(written(&one, &entries), Ok(table));
     }
 }
 
@@ -256,7 +271,7 @@ fn what_is_read_is_written_again() {
 #[cfg(feature = "proved")]
 fn listing_of(entries: &[Entry]) -> String {
     let line = |(reader, scheme, text): &Entry| {
-        let letter = if *scheme == 1 { 'A' } else { 'L' };
+        let letter = Scheme::of_number(*scheme).unwrap().letter();
         let points: String = text.iter().map(|point| format!(" U+{point:04X}")).collect();
         format!("{reader:05} {letter}{points}\n")
     };
@@ -283,15 +298,18 @@ fn listed(table: &[u8]) -> String {
 fn written_tables_are_listed() {
     let mut source = Source::new(23);
     let sizes = (0..60).map(|turn| 1 + turn % 9).chain([60, 500]);
-    for entries in sizes.map(|size| lawful_entries(&mut source, size)) {
+    for entries in sizes.map(|size| lawful_entries(&mut source, size, None)) {
         for one in implementations() {
             let table = written(&one, &entries).unwrap();
             assert_eq!(listed(&table), listing_of(&entries));
         }
     }
-    let sample = [(7, 1, vec![0xFC]), (300, 2, vec![0xFC])];
+    let sample = [(7, 1, vec![0xFC]), (300, 2, vec![0xFC]), (301, 3, vec![0xFC])];
     for one in implementations() {
         let table = written(&one, &sample).unwrap();
-        assert_eq!(listed(&table), "00007 A U+00FC\n00300 L U+00FC\n");
+        assert_eq!(listed(&table), "00007 A U+00FC
+00300 L U+00FC
+00301 B U+00FC
+");
     }
 }

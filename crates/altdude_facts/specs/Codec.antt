@@ -16,6 +16,6 @@ codec = record {
   textOf = textOf;
   textCauses = textCauses;
   labelCauses = labelCauses;
-  SameLabel = SameButCase;
+  SameLabel = λ t l. SameButCase (labelOf t) l;
   SameText = _≡_;
 }

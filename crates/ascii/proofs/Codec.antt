@@ -22,7 +22,7 @@ module _ (c : Codec) where
 module _ (c : Codec) (f : Faithful c) where
   -- where labels that differ at most in case count as the same, and texts that are equal, the last
   -- clause holds
-  pub read-alike : ((l m : List ℕ) → c .SameLabel l m ↔ SameButCase l m) → ((t u : List ℕ) → c .SameText t u ↔ (t ≡ u)) → ReadAlike c
+  pub read-alike : ((t l : List ℕ) → c .SameLabel t l ↔ SameButCase (c .labelOf t) l) → ((t u : List ℕ) → c .SameText t u ↔ (t ≡ u)) → ReadAlike c
   read-alike label text l k r q = (
     λ e. same-but-case l k .1 (sym (spelled l r) ∙ ap (λ (t : List ℕ). map small (c .labelOf t)) (text _ _ .0 e) ∙ spelled k q),
     λ e. text _ _ .1 (sym (f .text-is (c .textOf l) k (f .writable l r) (label _ k .1 (same-but-case _ k .1 (spelled l r ∙ same-but-case l k .0 e))))),

@@ -1,4 +1,4 @@
--- Character and value are inverse over any alphabet that passes the test, and both alphabets pass it.
+-- Character and value are inverse over any alphabet that passes the test, and all three pass it.
 use Prim.Native.Nat.{ℕ, _≤_, _<_}
 use mathlib.Core.Path.{_≡_, refl, sym, ap, _∙_}
 use mathlib.Core.Bool.{true, false, _||_, not}
@@ -14,7 +14,7 @@ use Rattle.basis.proofs.Tests.{cases, by-lt, both-left, both-right, within-low,
 use Rattle.basis.proofs.Lists.{at-past}
 use Rattle.ascii.specs.Case.{small, SameLetter}
 use Rattle.ascii.proofs.Case.{small-small, small-or-digit, letter-same, same-letter}
-use Rattle.base32.specs.Alphabet.{altdude, lace, characterOf, valueOf, isAlphabet, isDistinct, isCharacter}
+use Rattle.base32.specs.Alphabet.{altdude, lace, brace, characterOf, valueOf, isAlphabet, isDistinct, isCharacter}
 
 -- the value looks at the small form alone
 pub value-same : (alphabet : List ℕ) (a b : ℕ) → small a ≡ small b → valueOf alphabet a ≡ valueOf alphabet b
@@ -90,7 +90,7 @@ module _ (alphabet : List ℕ) (test : isAlphabet alphabet ≡ true) where
       back : (q : ℕ) → q < 32 → SameLetter b (characterOf alphabet q) → valueOf alphabet b < 32
       back q h s = rw (value-same alphabet b (characterOf alphabet q) (same-letter b (characterOf alphabet q) s), value-character q h) h
 
--- the two alphabets
+-- the three alphabets
 pub altdude-alphabet : isAlphabet altdude ≡ true
 unfolding isAlphabet isDistinct every firstBelow both within altdude
 altdude-alphabet = refl
@@ -98,3 +98,7 @@ altdude-alphabet = refl
 pub lace-alphabet : isAlphabet lace ≡ true
 unfolding isAlphabet isDistinct every firstBelow both within lace
 lace-alphabet = refl
+
+pub brace-alphabet : isAlphabet brace ≡ true
+unfolding isAlphabet isDistinct every firstBelow both within brace
+brace-alphabet = refl

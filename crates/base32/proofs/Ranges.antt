@@ -1,4 +1,4 @@
--- The value of a byte by ranges. One computed test over the 256 bytes holds any ranges to any alphabet; both alphabets' pass it.
+-- The value of a byte by ranges. One computed test over the 256 bytes holds any ranges to any alphabet; each of the three passes it.
 use Prim.Native.Nat.{ℕ, _+_, _≤_, _<_}
 use mathlib.Core.Path.{_≡_, refl}
 use mathlib.Core.Bool.{Bool, true}
@@ -10,8 +10,8 @@ use Rattle.basis.specs.Tests.{both, within, every, firstBelow}
 use Rattle.basis.proofs.Tests.{at-each, within-below, within-above}
 use Rattle.ascii.specs.Case.{isCapital, small}
 use Rattle.ascii.proofs.Case.{small-inside, small-below, small-above}
-use Rattle.base32.specs.Alphabet.{altdude, lace, valueOf}
-use Rattle.base32.specs.Internal.{Range, range, valueBy, altdudeLetters, laceLetters}
+use Rattle.base32.specs.Alphabet.{altdude, lace, brace, valueOf}
+use Rattle.base32.specs.Internal.{Range, range, valueBy, altdudeLetters, laceLetters, braceLetters}
 
 -- the test: for each byte, the value of its small form by the ranges is its value in the alphabet
 unfoldable pub agree : List Range → List ℕ → Bool
@@ -48,7 +48,12 @@ pub lace-letters-from-a : (byte : ℕ) → byte < 97 → valueBy laceLetters byt
 unfolding valueBy
 lace-letters-from-a byte h = rw (within-below 97 122 byte h)
 
--- both alphabets
+pub brace-letters-from-a : (byte : ℕ) → byte < 97 → valueBy braceLetters byte ≡ 32
+unfolding valueBy
+brace-letters-from-a byte h =
+    rw (within-below 112 122 byte (omega arith), within-below 109 110 byte (omega arith), within-below 97 107 byte h)
+
+-- the three alphabets
 pub altdude-agree : agree (range 50 57 24 ∷ altdudeLetters) altdude ≡ true
 unfolding agree every valueBy valueOf altdude small isCapital within both firstBelow
 altdude-agree = refl
@@ -56,3 +61,7 @@ altdude-agree = refl
 pub lace-agree : agree (range 50 55 26 ∷ laceLetters) lace ≡ true
 unfolding agree every valueBy valueOf lace small isCapital within both firstBelow
 lace-agree = refl
+
+pub brace-agree : agree (range 50 57 0 ∷ braceLetters) brace ≡ true
+unfolding agree every valueBy valueOf brace small isCapital within both firstBelow
+brace-agree = refl

@@ -19,3 +19,7 @@ altdudeLetters = range 112 122 13 ∷ range 109 110 11 ∷ range 97 107 0 ∷ []
 -- LACE's letters: a to z
 abbrev pub laceLetters : List Range
 laceLetters = range 97 122 0 ∷ []
+
+-- BRACE's letters: p to z, m and n, a to k
+abbrev pub braceLetters : List Range
+braceLetters = range 112 122 21 ∷ range 109 110 19 ∷ range 97 107 8 ∷ []

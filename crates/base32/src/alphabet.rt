@@ -1,14 +1,16 @@
-// The two alphabets as tables indexed by quintet, and the value of a byte, whatever its case, by ranges.
+// The three alphabets as tables indexed by quintet, and the value of a byte, whatever its case, by ranges.
 ghost use Prim.Native.Nat.{_+_, _≤_};
 ghost use mathlib.Core.Path.{_≡_};
 ghost use mathlib.Core.List.{[], _∷_};
-ghost use Rattle.base32.specs.Alphabet.{altdude, lace, characterOf, valueOf};
+ghost use Rattle.base32.specs.Alphabet.{altdude, lace, brace, characterOf, valueOf};
 ghost use Rattle.base32.specs.Answer.{firstOutside};
-ghost use Rattle.base32.specs.Internal.{range, valueBy, altdudeLetters, laceLetters};
+ghost use Rattle.base32.specs.Internal.{range, valueBy, altdudeLetters, laceLetters, braceLetters};
 
 const ALTDUDE: [u8; 32] = *b"abcdefghijkmnpqrstuvwxyz23456789";
 
 const LACE: [u8; 32] = *b"abcdefghijklmnopqrstuvwxyz234567";
+
+const BRACE: [u8; 32] = *b"23456789abcdefghijkmnpqrstuvwxyz";
 
 // The value of a byte from first to last, counted up from the value of the first, and 32 for any other.
 fn in_range(byte: u8, first: u8, last: u8, value: u8) -> u8
@@ -70,6 +72,32 @@ pub fn lace_value(byte: u8) -> u8
     lace_letter(byte + 32)
 }
 
+// The value of a small letter in BRACE's alphabet, which leaves out l and o, and 32 for any other byte.
+fn brace_letter(byte: u8) -> u8
+    ensures { λ r. ⌜ r ≡ valueBy braceLetters byte ⌝ }
+{
+    if b'o' < byte {
+        return in_range(byte, b'p', b'z', 21);
+    }
+    if b'l' < byte {
+        return in_range(byte, b'm', b'n', 19);
+    }
+    in_range(byte, b'a', b'k', 8)
+}
+
+// The value of a byte in BRACE's alphabet, 32 where it has none.
+pub fn brace_value(byte: u8) -> u8
+    ensures { λ r. ⌜ r ≡ valueOf brace byte ⌝ }
+{
+    if b'Z' < byte {
+        return brace_letter(byte);
+    }
+    if byte < b'A' {
+        return in_range(byte, b'2', b'9', 0);
+    }
+    brace_letter(byte + 32)
+}
+
 // AltDUDE's character for a quintet, 0 for 32 or more.
 pub fn altdude_character(quintet: u8) -> u8
     ensures { λ r. ⌜ r ≡ characterOf altdude quintet ⌝ }
@@ -84,6 +112,14 @@ pub fn lace_character(quintet: u8) -> u8
 {
     let q = quintet as usize;
     if q < 32 { LACE[q] } else { 0 }
+}
+
+// BRACE's character for a quintet, 0 for 32 or more.
+pub fn brace_character(quintet: u8) -> u8
+    ensures { λ r. ⌜ r ≡ characterOf brace quintet ⌝ }
+{
+    let q = quintet as usize;
+    if q < 32 { BRACE[q] } else { 0 }
 }
 
 // The index of the first byte that has no value in LACE's alphabet, or the length.

@@ -1,4 +1,4 @@
-// The alphabets of both schemes, and Base32 on parts of a label.
+// The alphabets of the schemes, and Base32 on parts of a label.
 pub mod alphabet;
 mod octets;
 mod quintets;

@@ -5,8 +5,8 @@ use Rattle.basis.specs.Causes.{Cause, NoCause}
 use Rattle.basis.specs.Outcome.{Outcome}
 
 -- what encoding and decoding answer at a capacity; the label of a text and the text of a label; the causes against writing a
--- text and against reading a label, capacity aside, in order; when given bytes count as the same as a text's label; and when
--- two texts count as the same
+-- text and against reading a label, capacity aside, in order; when given bytes count as the label of a text; and when two texts
+-- count as the same
 pub record Codec : Type 1 where
   pub encodeOutcome : ℕ → List ℕ → Outcome
   pub decodeOutcome : ℕ → List ℕ → Outcome
@@ -14,7 +14,7 @@ pub record Codec : Type 1 where
   pub textOf : List ℕ → List ℕ
   pub textCauses : List ℕ → List Cause
   pub labelCauses : List ℕ → List Cause
-  pub SameLabel : List ℕ → List ℕ → Type 0
+  pub SameLabel : (text label : List ℕ) → Type 0
   pub SameText : List ℕ → List ℕ → Type 0
 
 -- a text may be written: no cause against it holds, capacity aside

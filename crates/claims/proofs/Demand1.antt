@@ -36,8 +36,15 @@ use Rattle.lace.specs.Encoding as lace-encoding
 use Rattle.lace.specs.Decoding as lace-decoding
 use Rattle.lace.specs.Answer as lace
 use Rattle.lace_facts.proofs.Label as lace-laws
+use Rattle.brace.specs.Encoding as brace-encoding
+use Rattle.brace.specs.Decoding as brace-decoding
+use Rattle.brace.specs.Answer as brace
+use Rattle.brace.specs.Points as brace-points
+use Rattle.brace.proofs.Edges.{label-edges}
+use Rattle.brace.proofs.Labels.{either-false}
+use Rattle.brace.proofs.PointsLaws.{text-unpaired, lawful-short}
 use Rattle.scheme.specs.declared.Scheme.{Scheme}
-use Rattle.scheme.specs.declared.Scheme.the-variants.{Altdude, Lace}
+use Rattle.scheme.specs.declared.Scheme.the-variants.{Altdude, Lace, Brace}
 use Rattle.scheme.specs.Naming.{rowOf, numberNames, schemeNamed}
 use Rattle.scheme.specs.Naming as naming
 use Rattle.scheme.proofs.Naming.{by-scheme}
@@ -228,15 +235,62 @@ module _ (codes : List ℕ) (capacity : ℕ) (l : List ℕ)
       good-if _ _ _ (λ _. eight) (λ _. good-if _ _ _ (λ _. seven) (λ _. good-if _ _ _ (λ _. nine) (λ _. good-if _ _ _ (λ _. six) (λ _.
       good-done _ refl (omega (arith, lace-laws.text-fits l)))))))
 
+-- BRACE: writing never gives 5, and 1, 2 and 10 need be listed only if their tests hold
+module _ (codes : List ℕ) (capacity : ℕ) (three : isOneOf codes 3 ≡ true) where
+  brace-encoded : (t : List ℕ) → (ltb capacity 63 ≡ true → isOneOf codes 1 ≡ true) → (eqb (length t) 0 ≡ true → isOneOf codes 2 ≡ true)
+      → (ltb (utf16.firstUnpaired t) (length t) ≡ true → isOneOf codes 10 ≡ true) → Good codes (brace.encodeOutcome capacity t) (brace-encoding.labelOf t) capacity
+  unfolding brace.encodeOutcome brace.isTooLong
+  brace-encoded t one two ten =
+      good-if _ _ _ one (λ room. good-if _ _ _ two (λ _. good-if _ _ _ ten (λ _.
+      good-if _ _ _ (λ e. absurd (true-not-false e (label-edges t))) (λ _. good-if _ _ _ (λ _. three) (λ short.
+      good-done _ refl (omega (arith, ltb-false capacity 63 room, ltb-false 63 (length (brace-encoding.labelOf t)) (either-false (ltb 63 (length t)) _ short .1))))))))
+
+  points-encoded : (t : List ℕ) → isOneOf codes 1 ≡ true → isOneOf codes 2 ≡ true → (ltb (firstNotPoint t) (length t) ≡ true → isOneOf codes 4 ≡ true)
+      → Good codes (brace-points.encodeOutcome capacity t) (brace-points.labelOf t) capacity
+  unfolding brace-points.encodeOutcome brace-points.labelOf textTests
+  points-encoded t one two four =
+      good-if _ _ _ (λ _. one) (λ _. good-if _ _ _ (λ _. two) (λ _. good-if _ _ _ four (λ points.
+      brace-encoded (utf16.toUnits t) (λ _. one) (λ _. two) (λ e. absurd (true-not-false e (text-unpaired t points))))))
+
+-- reading gives units, and as many points at most
+module _ (codes : List ℕ) (capacity : ℕ) (l : List ℕ)
+    (one : ltb capacity 63 ≡ true → isOneOf codes 1 ≡ true) (two : eqb (length l) 0 ≡ true → isOneOf codes 2 ≡ true)
+    (three : ltb 63 (length l) ≡ true → isOneOf codes 3 ≡ true) (seven : isOneOf codes 7 ≡ true) (nine : isOneOf codes 9 ≡ true) (five : isOneOf codes 5 ≡ true) where
+  brace-decoded : Good codes (brace.decodeOutcome capacity l) (brace-decoding.textOf l) capacity
+  unfolding brace.decodeOutcome
+  brace-decoded =
+      label-good capacity (length l) one two three (λ room short.
+      good-if _ _ _ (λ _. seven) (λ _. good-if _ _ _ (λ _. five) (λ _. good-if _ _ _ (λ _. nine) (λ lawful.
+      good-done _ refl (omega (arith, room, lawful-short l (not-false _ lawful)))))))
+
+  points-decoded : Good codes (brace-points.decodeOutcome capacity l) (brace-points.textOf l) capacity
+  unfolding brace-points.decodeOutcome brace-points.textOf andThen
+  points-decoded = counted (brace.decodeOutcome capacity l) brace-decoded
+    where
+      counted : (outcome : Outcome) → Good codes outcome (brace-decoding.textOf l) capacity
+          → Good codes (andThen (λ p. p) outcome (done (length (utf16.toPoints (brace-decoding.textOf l))))) (utf16.toPoints (brace-decoding.textOf l)) capacity
+      counted (done n) g = let c = g .counts n refl in good-done _ refl (omega (arith, length-toPoints (brace-decoding.textOf l), c .0, c .1))
+      counted (refused number position) g = good-refused number position (g .listed .oneOf number position refl)
+
 scheme-encode : (s : Scheme) (text label : List ℕ) → Answers (encodeCodes s) (scheme.encodeOutcome s (length label) text) (scheme.labelOf s text) label
 unfolding encodeCodes isOneOf
 scheme-encode Altdude text label = answers _ (altdude-encoded _ _ _ refl refl refl (λ _. refl) refl)
 scheme-encode Lace text label = answers _ (lace-encoded _ _ _ refl refl refl (λ _. refl) refl)
+scheme-encode Brace text label = answers _ (points-encoded _ _ refl text refl refl (λ _. refl))
 
 scheme-decode : (s : Scheme) (label text : List ℕ) → Answers (decodeCodes s) (scheme.decodeOutcome s (length text) label) (scheme.textOf s label) text
 unfolding decodeCodes isOneOf
 scheme-decode Altdude label text = answers _ (altdude-decoded _ _ _ (λ _. refl) (λ _. refl) (λ _. refl) refl refl refl)
 scheme-decode Lace label text = answers _ (lace-decoded _ _ _ (λ _. refl) (λ _. refl) (λ _. refl) refl refl refl refl)
+scheme-decode Brace label text = answers _ (points-decoded _ _ label (λ _. refl) (λ _. refl) (λ _. refl) refl refl refl)
+
+brace-encode : (units label : List ℕ) → Answers (1 ∷ 2 ∷ 10 ∷ 3 ∷ []) (brace.encodeOutcome (length label) units) (brace-encoding.labelOf units) label
+unfolding isOneOf
+brace-encode units label = answers _ (brace-encoded _ _ refl units (λ _. refl) (λ _. refl) (λ _. refl))
+
+brace-decode : (label units : List ℕ) → Answers (decodeCodes Brace) (brace.decodeOutcome (length units) label) (brace-decoding.textOf label) units
+unfolding decodeCodes isOneOf
+brace-decode label units = answers _ (brace-decoded _ _ label (λ _. refl) (λ _. refl) (λ _. refl) refl refl refl)
 
 -- a label in an entry
 own-listed : (s : Scheme) (l : List ℕ) → 1 ≤ length l → length l ≤ 63 → Listed tableCodes (scheme.decodeOutcome s 63 l)
@@ -252,6 +306,7 @@ own-listed s l some short = by s
     by : (s : Scheme) → Listed tableCodes (scheme.decodeOutcome s 63 l)
     by Altdude = altdude-decoded _ 63 l (λ e. absurd (true-not-false e refl)) (λ e. absurd (true-not-false e two)) (λ e. absurd (true-not-false e three)) refl refl refl .listed
     by Lace = lace-decoded _ 63 l (λ e. absurd (true-not-false e refl)) (λ e. absurd (true-not-false e two)) (λ e. absurd (true-not-false e three)) refl refl refl refl .listed
+    by Brace = points-decoded _ 63 l (λ e. absurd (true-not-false e refl)) (λ e. absurd (true-not-false e two)) (λ e. absurd (true-not-false e three)) refl refl refl .listed
 
 -- a refusal that is reported at another position keeps its number
 then-listed : {codes : List ℕ} (place : ℕ → ℕ) (outcome next : Outcome) → Listed codes outcome → Listed codes next → Listed codes (andThen place outcome next)
@@ -313,6 +368,7 @@ text-listed : (s : Scheme) (t : List ℕ) → Listed tableWriteCodes (scheme.enc
 unfolding tableWriteCodes isOneOf
 text-listed Altdude t = altdude-encoded _ 63 t refl refl refl (λ _. refl) refl .listed
 text-listed Lace t = lace-encoded _ 63 t refl refl refl (λ _. refl) refl .listed
+text-listed Brace t = points-encoded _ 63 refl t refl refl (λ _. refl) .listed
 
 entries-write-listed : (index least : ℕ) (es : List writing.Entry) (total : ℕ) → Listed tableWriteCodes (writing.entriesWritten index least es total)
 unfolding writing.entriesWritten writing.entryWritten tableWriteCodes isOneOf
@@ -350,6 +406,8 @@ write-units Altdude capacity units below =
     good-if _ _ _ (λ _. refl) (λ paired. altdude-encoded _ _ _ refl refl refl (λ e. absurd (true-not-false e (never-four units below paired))) refl)
 write-units Lace capacity units below =
     good-if _ _ _ (λ _. refl) (λ paired. lace-encoded _ _ _ refl refl refl (λ e. absurd (true-not-false e (never-four units below paired))) refl)
+write-units Brace capacity units below =
+    good-if _ _ _ (λ _. refl) (λ paired. points-encoded _ _ refl _ refl refl (λ e. absurd (true-not-false e (never-four units below paired))))
 
 firmware-write : (number : ℕ) (text label : List ℕ) → AllBelow 256 text
     → Answers writeCodes (writeOutcome number (length label) text) (writtenLabel number text) label
@@ -373,6 +431,7 @@ read-label : (s : Scheme) (room : ℕ) (label : List ℕ) → 252 ≤ room
 unfolding readCodes isOneOf
 read-label Altdude room label h = bytes-good _ _ (altdude-decoded _ _ _ (λ _. refl) (λ _. refl) (λ _. refl) refl refl refl) h
 read-label Lace room label h = bytes-good _ _ (lace-decoded _ _ _ (λ _. refl) (λ _. refl) (λ _. refl) refl refl refl refl) h
+read-label Brace room label h = bytes-good _ _ (points-decoded _ _ label (λ _. refl) (λ _. refl) (λ _. refl) refl refl refl) h
 
 firmware-read : (number : ℕ) (label text : List ℕ)
     → Answers readCodes (firmware.readOutcome number (length text) label) (readText number label) text
@@ -418,6 +477,8 @@ demand1 = record {
   altdudeDecode = scheme-decode Altdude;
   laceEncode = scheme-encode Lace;
   laceDecode = scheme-decode Lace;
+  braceEncode = brace-encode;
+  braceDecode = brace-decode;
   schemeEncode = scheme-encode;
   schemeDecode = scheme-decode;
   tableRead = table-read;
@@ -430,17 +491,20 @@ demand1 = record {
   tableWriteOrder = write-settled;
   tableJudgedEntryAgrees = λ t n index capacity read. judged-as-found t n read index capacity;
   unknownKinds = λ e. (
-    λ u. let altdude : kindOf e ≡ 0x41 → ⊥ = u Altdude in let lace : kindOf e ≡ 0x4c → ⊥ = u Lace in (λ k. omega arith, λ k. omega arith),
-    λ d. by-scheme (λ s. kindOf e ≡ naming.kindOf s → ⊥) (d .0) (d .1),
+    λ u.
+        let altdude : kindOf e ≡ 0x41 → ⊥ = u Altdude in
+        let lace : kindOf e ≡ 0x4c → ⊥ = u Lace in
+        let brace : kindOf e ≡ 0x42 → ⊥ = u Brace in (λ k. omega arith, λ k. omega arith, λ k. omega arith),
+    λ d. by-scheme (λ s. kindOf e ≡ naming.kindOf s → ⊥) (d .0) (d .1) (d .2),
   );
-  unknownSchemes = λ number. (λ u. (u Altdude, u Lace), λ d. by-scheme (λ s. number ≡ naming.numberOf s → ⊥) (d .0) (d .1));
+  unknownSchemes = λ number. (λ u. (u Altdude, u Lace, u Brace), λ d. by-scheme (λ s. number ≡ naming.numberOf s → ⊥) (d .0) (d .1) (d .2));
   write = firmware-write;
   writeTells = λ number capacity text. tells _ _ (omega arith) (written-some number capacity text) (omega (arith, write-few number capacity text));
   read = firmware-read;
   readTells = λ number capacity label. tells _ _ (omega arith) (read-some number capacity label) (omega (arith, read-few number capacity label));
   unknownNumbers = λ number. (
-    λ u. let zero : number ≡ 0 → ⊥ = u .0 in let altdude : number ≡ 1 → ⊥ = u .1 Altdude in let lace : number ≡ 2 → ⊥ = u .1 Lace in omega arith,
-    λ h. (λ e. omega arith, by-scheme (λ s. number ≡ naming.numberOf s → ⊥) (λ e. omega arith) (λ e. omega arith)),
+    λ u. let zero : number ≡ 0 → ⊥ = u .0 in let altdude : number ≡ 1 → ⊥ = u .1 Altdude in let lace : number ≡ 2 → ⊥ = u .1 Lace in let brace : number ≡ 3 → ⊥ = u .1 Brace in omega arith,
+    λ h. (λ e. omega arith, by-scheme (λ s. number ≡ naming.numberOf s → ⊥) (λ e. omega arith) (λ e. omega arith) (λ e. omega arith)),
   );
   listLines = λ reader letter points. put-line (listLine reader letter points);
   pointsLines = λ points. put-line (pointsLine points);

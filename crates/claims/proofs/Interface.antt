@@ -1,7 +1,7 @@
 -- Demand 2 at the C interface: the bytes of a text and its points say the same, so it follows from the
 -- scheme's own demand.
 use Prim.Native.Nat.{ℕ, _%_, _≤_}
-use mathlib.Core.Path.{_≡_, refl, sym, ap, _∙_}
+use mathlib.Core.Path.{_≡_, refl, sym, ap, subst, _∙_}
 use mathlib.Core.Logic.{_↔_}
 use mathlib.Core.List.{List}
 use lib.ListN.{length}
@@ -13,7 +13,6 @@ use Rattle.basis.specs.Codec.{Writable, Readable}
 use Rattle.basis.proofs.Tests.{by-lt, true-not-false, first-before}
 use Rattle.basis.proofs.Causes.{absent-first}
 use Rattle.basis.proofs.Codec.{decode-settled}
-use Rattle.ascii.specs.Case.{SameButCase}
 use Rattle.utf16.specs.Units.{unpairedAt, firstUnpaired}
 use Rattle.utf16.specs.Bytes.{unitsOfBytes, pointsOf, bytesOf}
 use Rattle.utf16.specs.Causes.{UnpairedAt}
@@ -21,12 +20,12 @@ use Rattle.utf16.proofs.RoundTrip.{some-toUnits, length-bytesOf, length-bytesOf
 use Rattle.scheme.specs.Naming.{numberNames, schemeNamed}
 use Rattle.scheme.specs.Coding.{codecOf, labelOf, textOf}
 use Rattle.scheme.proofs.Naming.{zero-is-one}
-use Rattle.scheme.proofs.Coding.{faithful, label-case, label-some, writable-text, decoded-short}
+use Rattle.scheme.proofs.Coding.{faithful, label-some, writable-text, decoded-short}
 use Rattle.scheme.specs.declared.Scheme.{Scheme}
 use Rattle.firmware.specs.Answer.{writeOutcome, writtenLabel, readOutcome, readText}
 use Rattle.firmware.specs.Causes.{bytesCauses}
 use Rattle.firmware.proofs.Settled.{write-settled, read-settled}
-use Rattle.claims.specs.Demands.{WritesBytes, ReadsBytes, MayWrite, MeanTheSame, Demand2AtInterface}
+use Rattle.claims.specs.Demands.{WritesBytes, ReadsBytes, MayWrite, SameLabelBy, MeanTheSame, Demand2AtInterface}
 use Rattle.claims.proofs.CodecDemands.{settled-leaves}
 
 -- a text may be written under a scheme exactly if its bytes may
@@ -69,8 +68,8 @@ module _ (number : ℕ) where
       (λ r. let q = leaves .0 r in ((q .0 .0, q .0 .1 .1), q .1), λ p. leaves .1 ((p .0 .0, ((λ _ h. omega (arith, h .1)), p .0 .1)), p .1))
 
   reads-back : (buffer l bytes : List ℕ) → 252 ≤ length buffer → AllBelow 256 bytes
-      → ReadsBytes number buffer l bytes ↔ (MayWrite number bytes × SameButCase (writtenLabel number bytes) l)
-  unfolding writtenLabel readText
+      → ReadsBytes number buffer l bytes ↔ (MayWrite number bytes × SameLabelBy number bytes l)
+  unfolding readText
   reads-back buffer l bytes room below =
       let leaves = settled-leaves (readText number l) buffer bytes (read-settled number (length buffer) l) in
       let f = faithful s in (
@@ -80,13 +79,12 @@ module _ (number : ℕ) where
             let t = textOf s l in
             rw (q .1) (
               (q .0 .0, bytes-free s t (text-few s l (q .0 .1 .1)) w),
-              rw (pointsOf-bytesOf t (writable-text s t w .text)) (label-case s _ l .0 (f .respelled l (q .0 .1 .1))),
+              subst (λ (u : List ℕ). codecOf s .SameLabel u l) (sym (pointsOf-bytesOf t (writable-text s t w .text))) (f .respelled l (q .0 .1 .1)),
             ),
         λ p.
             let w = p .0 .1 .1 .1 .1 .1 in
-            let same = label-case s (labelOf s (pointsOf bytes)) l .1 (p .1) in
-            let text = f .text-is (pointsOf bytes) l w same in
-            leaves .1 ((p .0 .0, ((λ _ h. omega (arith, h .1)), f .readable (pointsOf bytes) l w same)), sym (ap bytesOf text ∙ bytes-back s bytes below (p .0 .1))),
+            let text = f .text-is (pointsOf bytes) l w (p .1) in
+            leaves .1 ((p .0 .0, ((λ _ h. omega (arith, h .1)), f .readable (pointsOf bytes) l w (p .1))), sym (ap bytesOf text ∙ bytes-back s bytes below (p .0 .1))),
       )
 
 -- the counts of both functions are 1 or more

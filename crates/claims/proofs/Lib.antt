@@ -5,4 +5,5 @@ pub mod Demand1
 pub mod Demands
 pub mod Written
 pub mod KnownLabels
+pub mod Brace
 pub mod Shortest

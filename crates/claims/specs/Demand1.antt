@@ -29,8 +29,11 @@ use Rattle.altdude.specs.Answer as altdude
 use Rattle.lace.specs.Encoding as lace-encoding
 use Rattle.lace.specs.Decoding as lace-decoding
 use Rattle.lace.specs.Answer as lace
+use Rattle.brace.specs.Encoding as brace-encoding
+use Rattle.brace.specs.Decoding as brace-decoding
+use Rattle.brace.specs.Answer as brace
 use Rattle.scheme.specs.declared.Scheme.{Scheme}
-use Rattle.scheme.specs.declared.Scheme.the-variants.{Altdude, Lace}
+use Rattle.scheme.specs.declared.Scheme.the-variants.{Altdude, Lace, Brace}
 use Rattle.scheme.specs.Coding as scheme
 use Rattle.nametable_format.specs.Format as nametable
 use Rattle.nametable.specs.Answer.{readOutcome, findOutcome, judgedEntryOutcome, entryText}
@@ -69,14 +72,17 @@ pub record Tells (most : ℕ) (outcome : Outcome) : Type 0 where
   pub counts : answerOf outcome < 1000 → (outcome ≡ done (answerOf outcome)) × (1 ≤ answerOf outcome) × (answerOf outcome ≤ most)
   pub refuses : (number : ℕ) → answerOf outcome ≡ 1000 + number → (position : ℕ) × (outcome ≡ refused number position)
 
--- the numbers of each scheme, writing and reading
+-- the numbers of each scheme, writing and reading; 5 can't come from writing BRACE, since none of its
+-- labels begins or ends with a hyphen
 unfoldable pub encodeCodes : Scheme → List ℕ
 encodeCodes Altdude = 1 ∷ 2 ∷ 4 ∷ 5 ∷ 3 ∷ []
 encodeCodes Lace = 1 ∷ 2 ∷ 4 ∷ 6 ∷ 3 ∷ []
+encodeCodes Brace = 1 ∷ 2 ∷ 4 ∷ 3 ∷ []
 
 unfoldable pub decodeCodes : Scheme → List ℕ
 decodeCodes Altdude = 1 ∷ 2 ∷ 3 ∷ 7 ∷ 5 ∷ 9 ∷ []
 decodeCodes Lace = 1 ∷ 2 ∷ 3 ∷ 8 ∷ 7 ∷ 9 ∷ 6 ∷ []
+decodeCodes Brace = 1 ∷ 2 ∷ 3 ∷ 7 ∷ 5 ∷ 9 ∷ []
 
 -- of a table: its own, and those of a label of 1 to 63 bytes
 unfoldable pub tableCodes : List ℕ
@@ -141,7 +147,7 @@ pub record Demand1 : Type 0 where
   -- labels: what the first tests answer where nothing follows
   pub checkText : (capacity : ℕ) (text : List ℕ) → Listed (1 ∷ 2 ∷ 4 ∷ []) (textTests capacity text (done 0))
   pub checkLabel : (capacity bytes : ℕ) → Listed (1 ∷ 2 ∷ 3 ∷ []) (labelTests capacity bytes (done 0))
-  -- altdude, lace, and by scheme
+  -- altdude, lace, brace from units and to units, and by scheme
   pub altdudeEncode : (text label : List ℕ)
       → Answers (encodeCodes Altdude) (altdude.encodeOutcome (length label) text) (altdude-encoding.labelOf text) label
   pub altdudeDecode : (label text : List ℕ)
@@ -150,6 +156,10 @@ pub record Demand1 : Type 0 where
       → Answers (encodeCodes Lace) (lace.encodeOutcome isHostLabel (length label) text) (lace-encoding.labelOf text) label
   pub laceDecode : (label text : List ℕ)
       → Answers (decodeCodes Lace) (lace.decodeOutcome isHostLabel (length text) label) (lace-decoding.textOf label) text
+  pub braceEncode : (units label : List ℕ)
+      → Answers (1 ∷ 2 ∷ 10 ∷ 3 ∷ []) (brace.encodeOutcome (length label) units) (brace-encoding.labelOf units) label
+  pub braceDecode : (label units : List ℕ)
+      → Answers (decodeCodes Brace) (brace.decodeOutcome (length units) label) (brace-decoding.textOf label) units
   pub schemeEncode : (s : Scheme) (text label : List ℕ)
       → Answers (encodeCodes s) (scheme.encodeOutcome s (length label) text) (scheme.labelOf s text) label
   pub schemeDecode : (s : Scheme) (label text : List ℕ)
@@ -175,10 +185,11 @@ pub record Demand1 : Type 0 where
   -- `judged_entry` answers as `entry` does if the table reads whole
   pub tableJudgedEntryAgrees : (table : List ℕ) (count index capacity : ℕ) → readOutcome table ≡ done count
       → judgedEntryOutcome table index capacity ≡ findOutcome table index capacity
-  -- the kind of an entry is no scheme's exactly if it is neither 41 nor 4C hex
-  pub unknownKinds : (entry : List ℕ) → UnknownKind entry ↔ ((nametable.kindOf entry ≡ 0x41 → ⊥) × (nametable.kindOf entry ≡ 0x4c → ⊥))
-  -- the number of an entry's scheme is no scheme's exactly if it is neither 1 nor 2
-  pub unknownSchemes : (number : ℕ) → UnknownScheme number ↔ ((number ≡ 1 → ⊥) × (number ≡ 2 → ⊥))
+  -- the kind of an entry is no scheme's exactly if it is neither 41, 4C nor 42 hex
+  pub unknownKinds : (entry : List ℕ)
+      → UnknownKind entry ↔ ((nametable.kindOf entry ≡ 0x41 → ⊥) × (nametable.kindOf entry ≡ 0x4c → ⊥) × (nametable.kindOf entry ≡ 0x42 → ⊥))
+  -- the number of an entry's scheme is no scheme's exactly if it is neither 1, 2 nor 3
+  pub unknownSchemes : (number : ℕ) → UnknownScheme number ↔ ((number ≡ 1 → ⊥) × (number ≡ 2 → ⊥) × (number ≡ 3 → ⊥))
   -- firmware: what is left, and what the number says
   pub write : (number : ℕ) (text label : List ℕ) → AllBelow 256 text
       → Answers writeCodes (writeOutcome number (length label) text) (writtenLabel number text) label
@@ -186,8 +197,8 @@ pub record Demand1 : Type 0 where
   pub read : (number : ℕ) (label text : List ℕ)
       → Answers readCodes (firmware.readOutcome number (length text) label) (readText number label) text
   pub readTells : (number capacity : ℕ) (label : List ℕ) → Tells 252 (firmware.readOutcome number capacity label)
-  -- a number is neither 0 nor any scheme's exactly if it is over 2
-  pub unknownNumbers : (number : ℕ) → UnknownNumber number ↔ (2 < number)
+  -- a number is neither 0 nor any scheme's exactly if it is over 3
+  pub unknownNumbers : (number : ℕ) → UnknownNumber number ↔ (3 < number)
   -- report
   pub listLines : (reader letter : ℕ) (points out : List ℕ)
       → Answers (1 ∷ []) (lineOutcome (listLine reader letter points) (length out)) (listLine reader letter points) out

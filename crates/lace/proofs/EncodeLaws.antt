@@ -10,15 +10,13 @@ use native.Mathlib.Numerals.{add-one}
 use native.Mathlib.Omega.{arith}
 use Rattle.basis.specs.Rows.{at, AllBelow}
 use Rattle.basis.specs.Outcome.{Outcome, done, refused, refusedIf, countOf, bufferAfter}
-use Rattle.basis.proofs.Tests.{cases, by-lt}
+use Rattle.basis.proofs.Tests.{cases}
 use Rattle.basis.proofs.Lists.{sets-front}
 use Rattle.basis.proofs.Stores.{Storing, storing-more, storing-none}
-use Rattle.basis.proofs.Parts.{rest-is, rest-filled, front-is, front-fits, front-long}
-use Rattle.basis.proofs.Outcome.{pass-below, refusal-leaves, done-leaves, done-not-refused, done-count}
-use Rattle.utf16.specs.Points.{firstNotPoint}
+use Rattle.basis.proofs.Parts.{rest-is, rest-filled, front-is}
+use Rattle.basis.proofs.Outcome.{pass-below, refusal-leaves, done-leaves}
 use Rattle.utf16.specs.Units.{toUnits}
-use Rattle.utf16.specs.Answer.{toUnitsOutcome, unitsToBytesOutcome}
-use Rattle.utf16.proofs.Refusals as utf16-laws
+use Rattle.utf16.specs.Answer.{unitsToBytesOutcome}
 use Rattle.utf16.proofs.RoundTrip.{some-toUnits}
 use Rattle.utf16.specs.Bytes.{bytesOfUnits}
 use Rattle.utf16.proofs.BytePairs.{length-bytesOfUnits}
@@ -189,45 +187,6 @@ module _ (us label : List ℕ) where
         let c = 4 + quintetCount (length (octetsOf us)) in
         let r = done-leaves (unitsOutcome us) (prefix ++ charactersOf lace (octetsOf us)) label now c (octets-short us (omega arith)) (rw e at b) in
         (rw e at a ∙ r .0, r .1)
-
--- the converter is done with the text: its units are first in the buffer
-pub record Converted (t : List ℕ) (answer : Outcome) (now : List ℕ) : Type 0 where
-  pub rest : List ℕ
-  pub counts : answer ≡ done (length (toUnits t))
-  pub leaves : now ≡ toUnits t ++ rest
-
--- so it is with a text of at most 34 points
-pub converts : (t : List ℕ) → firstNotPoint t ≡ length t → length t ≤ 34
-    → (answer : Outcome) (capacity : ℕ) → answer ≡ toUnitsOutcome t (length t) capacity → 68 ≤ capacity
-    → (now buffer : List ℕ) → now ≡ bufferAfter (toUnitsOutcome t (length t) capacity) (toUnits (take (length t) t)) buffer → Converted t answer now
-unfolding bufferAfter toUnitsOutcome
-converts t points few answer capacity is room now buffer left = record {
-  rest = drop (length (toUnits t)) buffer;
-  counts = is ∙ complete;
-  leaves = left ∙ rw (complete, take-length);
-}
-  where
-    complete : toUnitsOutcome t (length t) capacity ≡ done (length (toUnits t))
-    complete =
-        utf16-laws.all-done (length t) (length t) (2 * length t) capacity (firstNotPoint (take (length t) t)) 4 (length (toUnits (take (length t) t)))
-        (omega arith) (omega arith) (length t) (rw take-length (sym points)) (omega arith) (length (toUnits t)) (rw take-length)
-
-module _ {t : List ℕ} {answer : Outcome} {now : List ℕ} (v : Converted t answer now) where
-  pub not-refused : {number position : ℕ} → answer ≡ refused number position → ⊥
-  not-refused e = done-not-refused (v .counts) e
-
-  module _ {n : ℕ} (is : answer ≡ done n) where
-    pub units-fit : n ≤ length now
-    units-fit = front-fits n (toUnits t) (v .rest) now (done-count is (v .counts)) (v .leaves)
-
-    pub units-long : n ≡ length (take n now)
-    units-long = front-long n (toUnits t) (v .rest) now (done-count is (v .counts)) (v .leaves)
-
-    pub units-are : take n now ≡ toUnits t
-    units-are = front-is n (toUnits t) (v .rest) now (done-count is (v .counts)) (v .leaves)
-
-    pub units-some : (length t ≡ 0 → ⊥) → 1 ≤ length (take n now)
-    units-some some = let u = some-toUnits t in rw units-are (by-lt 0 (length t) (λ h. omega arith) (λ h. absurd (some (omega arith))))
 
 -- what is left of the tests on a text is what is answered for its units
 pub by-units : (t us : List ℕ) → us ≡ toUnits t → refusedIf (ltb 63 (length (labelOf t))) 3 0 (done (length (labelOf t))) ≡ unitsOutcome us

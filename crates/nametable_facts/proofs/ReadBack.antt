@@ -16,11 +16,10 @@ use Rattle.basis.proofs.Tests.{within-true, within-low, within-high, each-at}
 use Rattle.basis.proofs.Lists.{row-tabulate}
 use Rattle.basis.proofs.Outcome.{pass-if, pass-below, both-done, passed}
 use Rattle.basis.proofs.Codec.{decode-settled}
-use Rattle.ascii.proofs.Case.{same-but-case}
 use Rattle.scheme.specs.Naming.{ownNumberNames, kindNames, isKnown, schemeNamed}
 use Rattle.scheme.specs.Coding.{codecOf, decodeOutcome, labelOf, textOf}
 use Rattle.scheme.proofs.Naming.{kind-names, number-back}
-use Rattle.scheme.proofs.Coding.{faithful, label-case, label-some}
+use Rattle.scheme.proofs.Coding.{faithful, label-own, label-some}
 use Rattle.nametable_format.specs.Format.{mostEntries, labelCapacity, textCapacity, numberAt, countOf, tableLength, entryAt, kindOf, readerOf, lengthOf, labelIn, isFilled, schemeIn}
 use Rattle.nametable.specs.Answer.{formTests, entryJudged, entriesJudged, readOutcome, textIn}
 use Rattle.nametable_write.specs.Writing.{Entry, entry, entriesOf, listTests, schemeOf, entryWritten, readerIn, entriesWritten, writeOutcome, numberBytes, zeros, filled, entryBytes, entriesBytes, tableOf}
@@ -78,8 +77,8 @@ module _ (reader scheme : ℕ) (text : List ℕ) (spelled : Spelled (entry reade
   unfolding isFilled
   filling-held = rw length-held (each-at (63 - length label) (λ i. eqb (at bytes (4 + length label + i)) 0) (λ i h. eq-eqb _ 0 (filled-at i)))
 
-  same : codecOf (schemeOf scheme) .SameLabel label label
-  same = label-case (schemeOf scheme) label label .1 (same-but-case label label .1 refl)
+  same : codecOf (schemeOf scheme) .SameLabel text label
+  same = label-own (schemeOf scheme) text
 
   text-back : textOf (schemeOf scheme) label ≡ text
   text-back = faithful (schemeOf scheme) .text-is text label (label-writable reader scheme text spelled) same

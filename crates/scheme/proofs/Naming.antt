@@ -11,7 +11,7 @@ use Rattle.basis.specs.Tests.{both}
 use Rattle.basis.proofs.Tests.{cases, true-not-false, fails-iff, both-left, both-right}
 use Rattle.scheme.specs.Naming.{rowOf, schemes, numberOf, kindOf, letterOf, firstWith, defaultNumber, ownNumberNames, numberNames, kindNames, isKnown, schemeNamed}
 use Rattle.scheme.specs.declared.Scheme.{Scheme}
-use Rattle.scheme.specs.declared.Scheme.the-variants.{Altdude, Lace}
+use Rattle.scheme.specs.declared.Scheme.the-variants.{Altdude, Lace, Brace}
 use Rattle.scheme.specs.declared.Named.{Named}
 use Rattle.scheme.specs.declared.Named.the-variants.{Known}
 
@@ -31,13 +31,14 @@ OneOf s [] = ⊥
 OneOf s (t ∷ rest) = (s ≡ t) ⊎ OneOf s rest
 
 -- what holds of each scheme by name holds of any
-pub by-scheme : (P : Scheme → Type 0) → P Altdude → P Lace → (s : Scheme) → P s
-by-scheme P altdude lace Altdude = altdude
-by-scheme P altdude lace Lace = lace
+pub by-scheme : (P : Scheme → Type 0) → P Altdude → P Lace → P Brace → (s : Scheme) → P s
+by-scheme P altdude lace brace Altdude = altdude
+by-scheme P altdude lace brace Lace = lace
+by-scheme P altdude lace brace Brace = brace
 
 every-scheme : (s : Scheme) → OneOf s schemes
 unfolding schemes
-every-scheme = by-scheme (λ s. OneOf s schemes) (inl refl) (inr (inl refl))
+every-scheme = by-scheme (λ s. OneOf s schemes) (inl refl) (inr (inl refl)) (inr (inr (inl refl)))
 
 -- where the values are distinct, the first scheme with a scheme's value is that scheme
 own-value : (valueOf : Scheme → ℕ) (list : List Scheme) → distinct valueOf list ≡ true → (s : Scheme) → OneOf s list → firstWith valueOf (valueOf s) list ≡ Known s

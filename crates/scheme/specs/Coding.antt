@@ -5,13 +5,15 @@ use Rattle.basis.specs.Outcome.{Outcome}
 use Rattle.basis.specs.Codec.{Codec}
 use Rattle.altdude_facts.specs.Codec as altdude
 use Rattle.lace_facts.specs.Codec as lace
+use Rattle.brace_facts.specs.Codec as brace
 use Rattle.scheme.specs.declared.Scheme.{Scheme}
-use Rattle.scheme.specs.declared.Scheme.the-variants.{Altdude, Lace}
+use Rattle.scheme.specs.declared.Scheme.the-variants.{Altdude, Lace, Brace}
 
 -- a scheme's codec
 abbrev pub codecOf : Scheme → Codec
 codecOf Altdude = altdude.codec
 codecOf Lace = lace.codec
+codecOf Brace = brace.pointsCodec
 
 -- what encoding answers at a capacity
 abbrev pub encodeOutcome : Scheme → ℕ → List ℕ → Outcome

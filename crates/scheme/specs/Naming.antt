@@ -5,7 +5,7 @@ use mathlib.Core.List.{List, [], _∷_}
 use lib.Dec.{eqb}
 use Rattle.basis.specs.Tests.{pick}
 use Rattle.scheme.specs.declared.Scheme.{Scheme}
-use Rattle.scheme.specs.declared.Scheme.the-variants.{Altdude, Lace}
+use Rattle.scheme.specs.declared.Scheme.the-variants.{Altdude, Lace, Brace}
 use Rattle.scheme.specs.declared.Named.{Named}
 use Rattle.scheme.specs.declared.Named.the-variants.{Known, Unknown}
 
@@ -15,14 +15,16 @@ pub record Row : Type 0 where
   pub kind : ℕ
   pub letter : ℕ
 
--- AltDUDE is 1, has entries of kind 41 hex and the letter A; LACE is 2, with 4C hex and L
+-- AltDUDE is 1, has entries of kind 41 hex and the letter A; LACE is 2, with 4C hex and L; BRACE is
+-- 3, with 42 hex and B
 unfoldable pub rowOf : Scheme → Row
 rowOf Altdude = record { number = 1; kind = 0x41; letter = 65 }
 rowOf Lace = record { number = 2; kind = 0x4c; letter = 76 }
+rowOf Brace = record { number = 3; kind = 0x42; letter = 66 }
 
 -- all schemes
 unfoldable pub schemes : List Scheme
-schemes = Altdude ∷ Lace ∷ []
+schemes = Altdude ∷ Lace ∷ Brace ∷ []
 
 -- the scheme's number
 unfoldable pub numberOf : Scheme → ℕ

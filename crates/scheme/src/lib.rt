@@ -1,4 +1,4 @@
-// The two schemes: their numbers, kinds of entry and letters, the default, and encoding and decoding by scheme.
+// The schemes: their numbers, kinds of entry and letters, the default, and encoding and decoding by scheme.
 use basis::BytesAnswer;
 use utf16::PointsAnswer;
 ghost use mathlib.Core.Path.{_≡_};
@@ -12,6 +12,7 @@ ghost use Rattle.scheme.specs.Coding.{encodeOutcome, decodeOutcome, labe
 pub enum Scheme {
     Altdude,
     Lace,
+    Brace,
 }
 
 // What a number or a kind of entry names.
@@ -27,6 +28,7 @@ pub fn number(scheme: Scheme) -> u32
     match scheme {
         Scheme::Altdude => 1,
         Scheme::Lace => 2,
+        Scheme::Brace => 3,
     }
 }
 
@@ -37,6 +39,7 @@ pub fn kind(scheme: Scheme) -> u8
     match scheme {
         Scheme::Altdude => 0x41,
         Scheme::Lace => 0x4c,
+        Scheme::Brace => 0x42,
     }
 }
 
@@ -47,6 +50,7 @@ pub fn letter(scheme: Scheme) -> u8
     match scheme {
         Scheme::Altdude => 65,
         Scheme::Lace => 76,
+        Scheme::Brace => 66,
     }
 }
 
@@ -62,6 +66,9 @@ pub fn of_own_number(number: u32) -> Named
     }
     if number == 2 {
         return Named::Known(Scheme::Lace);
+    }
+    if number == 3 {
+        return Named::Known(Scheme::Brace);
     }
     Named::Unknown
 }
@@ -86,6 +93,9 @@ pub fn of_kind(kind: u8) -> Named
     if kind == 0x4c {
         return Named::Known(Scheme::Lace);
     }
+    if kind == 0x42 {
+        return Named::Known(Scheme::Brace);
+    }
     Named::Unknown
 }
 
@@ -97,6 +107,7 @@ pub fn encode(scheme: Scheme, text: &[u32], label: &mut [u8]) -> BytesAnswer
     match scheme {
         Scheme::Altdude => altdude::encode(text, label),
         Scheme::Lace => lace::encode(text, label),
+        Scheme::Brace => brace::points::encode(text, label),
     }
 }
 
@@ -108,5 +119,6 @@ pub fn decode(scheme: Scheme, label: &[u8], text: &mut [u32]) -> PointsAnswer
     match scheme {
         Scheme::Altdude => altdude::decode(label, text),
         Scheme::Lace => lace::decode(label, text),
+        Scheme::Brace => brace::points::decode(label, text),
     }
 }

@@ -1,4 +1,4 @@
-// The converter, both schemes and the name table, exported to C for tests alone. In `answer` each
+// The converter, the schemes and the name table, exported to C for tests alone. In `answer` each
 // stores five numbers, if it has five elements or more: code (0 when done), position, count, and
 // for an entry of a table reader number and scheme number.
 mod answers;
@@ -17,6 +17,9 @@ ghost use Rattle.ascii.specs.Ldh.{isHostLabel};
 ghost use Rattle.lace.specs.Encoding.{labelOf as laceLabelOf};
 ghost use Rattle.lace.specs.Decoding.{textOf as laceTextOf};
 ghost use Rattle.lace.specs.Answer.{encodeOutcome as laceEncodeOutcome, decodeOutcome as laceDecodeOutcome};
+ghost use Rattle.brace.specs.Encoding.{labelOf as braceLabelOf};
+ghost use Rattle.brace.specs.Decoding.{textOf as braceTextOf};
+ghost use Rattle.brace.specs.Answer.{encodeOutcome as braceEncodeOutcome, decodeOutcome as braceDecodeOutcome};
 ghost use Rattle.nametable_format.specs.Format.{entryAt};
 ghost use Rattle.nametable.specs.Answer.{readOutcome, findOutcome, judgedEntryOutcome, entryFrom, entryText};
 ghost use Rattle.nametable_write.specs.Writing.{entriesOf, writeOutcome, tableOf};
@@ -79,6 +82,24 @@ pub extern "C" fn test_lace_decode(label: &[u8], text: &mut [u32], answer: &mut 
     ensures { λ _. ⌜ now (answer .exit) ≡ answerAfter (numbersOf (laceDecodeOutcome isHostLabel (length (now (text .entry))) (now (label .entry)))) (now (answer .entry)) ⌝ }
 {
     answers::store_points(lace::decode(label, text), answer);
+}
+
+// Exports `brace::encode`.
+#[no_mangle]
+pub extern "C" fn test_brace_encode(units: &[u16], label: &mut [u8], answer: &mut [u64])
+    ensures { λ _. ⌜ now (label .exit) ≡ bufferAfter (braceEncodeOutcome (length (now (label .entry))) (now (units .entry))) (braceLabelOf (now (units .entry))) (now (label .entry)) ⌝ }
+    ensures { λ _. ⌜ now (answer .exit) ≡ answerAfter (numbersOf (braceEncodeOutcome (length (now (label .entry))) (now (units .entry)))) (now (answer .entry)) ⌝ }
+{
+    answers::store_bytes(brace::encode(units, label), answer);
+}
+
+// Exports `brace::decode`.
+#[no_mangle]
+pub extern "C" fn test_brace_decode(label: &[u8], units: &mut [u16], answer: &mut [u64])
+    ensures { λ _. ⌜ now (units .exit) ≡ bufferAfter (braceDecodeOutcome (length (now (units .entry))) (now (label .entry))) (braceTextOf (now (label .entry))) (now (units .entry)) ⌝ }
+    ensures { λ _. ⌜ now (answer .exit) ≡ answerAfter (numbersOf (braceDecodeOutcome (length (now (units .entry))) (now (label .entry)))) (now (answer .entry)) ⌝ }
+{
+    answers::store_units(brace::decode(label, units), answer);
 }
 
 // Exports `nametable::read`.

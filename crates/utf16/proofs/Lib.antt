@@ -5,3 +5,4 @@ pub mod Pieces
 pub mod Stores
 pub mod RoundTrip
 pub mod Refusals
+pub mod Converted

@@ -148,7 +148,7 @@ bytes-to-points-settled bytes c =
     (λ _. unpaired-settled (unitsOfBytes bytes) (λ _. settle-done _)))
 
 -- a row is a text exactly when the search for a number that is no point goes to its end
-text-iff : (ps : List ℕ) → (firstNotPoint ps ≡ length ps) ↔ (isText ps ≡ true)
+pub text-iff : (ps : List ℕ) → (firstNotPoint ps ≡ length ps) ↔ (isText ps ≡ true)
 unfolding firstNotPoint isText
 text-iff ps = none-iff (length ps) (λ i. isPoint (getD ps i 0))
 

@@ -78,8 +78,8 @@ fn index_for(source: &mut Source, length: usize) -> usize {
 /// A number for a scheme of the C interface.
 fn scheme_number(source: &mut Source) -> u32 {
     match source.below(16) {
-        0 => source.pick(&[3, 9, 256, 257, 0x8000_0000, u32::MAX]),
-        _ => source.below(3) as u32,
+        0 => source.pick(&[4, 9, 256, 257, 259, 0x8000_0000, u32::MAX]),
+        _ => source.below(4) as u32,
     }
 }
 
@@ -99,11 +99,18 @@ pub fn to_points(source: &mut Source) -> Call<Row<u16>> {
     call(source, units, count, capacity)
 }
 
-/// Encoding a text under either scheme.
+/// Encoding a text under AltDUDE or LACE.
 pub fn encode(source: &mut Source) -> Call<Row<u32>> {
     let text = texts::text(source);
     let capacity = capacity_around(source, 63);
     call(source, text, 0, capacity)
+}
+
+/// Encoding units under BRACE.
+pub fn brace_encode(source: &mut Source) -> Call<Row<u16>> {
+    let units = texts::text_units(source, Scheme::Brace);
+    let capacity = capacity_around(source, 63);
+    call(source, units, 0, capacity)
 }
 
 /// Decoding a label of a scheme.
@@ -123,24 +130,49 @@ pub fn lace_decode(source: &mut Source) -> Call<Row<u8>> {
     decode(source, Scheme::Lace)
 }
 
-/// Reading a table, which fills no buffer.
-pub fn table_read(source: &mut Source) -> Call<Row<u8>> {
-    let table = tables::table(source);
+/// Decoding a BRACE label.
+pub fn brace_decode(source: &mut Source) -> Call<Row<u8>> {
+    decode(source, Scheme::Brace)
+}
+
+/// Reading a table in which a scheme may be held, which fills no buffer.
+fn table_read_holding(source: &mut Source, held: Option<Scheme>) -> Call<Row<u8>> {
+    let table = tables::table(source, held);
     call(source, table, 0, 0)
 }
 
-/// Reading one entry of a table, judged before or not.
-pub fn table_entry(source: &mut Source) -> Call<Row<u8>> {
-    let table = tables::table(source);
+/// Reading a table.
+pub fn table_read(source: &mut Source) -> Call<Row<u8>> {
+    table_read_holding(source, None)
+}
+
+/// Reading a table that holds a BRACE label.
+pub fn brace_table_read(source: &mut Source) -> Call<Row<u8>> {
+    table_read_holding(source, Some(Scheme::Brace))
+}
+
+/// Reading one entry of a table in which a scheme may be held, judged before or not.
+fn table_entry_holding(source: &mut Source, held: Option<Scheme>) -> Call<Row<u8>> {
+    let table = tables::table(source, held);
     let index = index_for(source, table.len());
     let capacity = capacity_around(source, 63);
     call(source, table, index, capacity)
 }
 
-/// Writing the table of a list. The buffer may also be as long as a header, one
-/// byte shorter, or as long as a table of one entry.
-pub fn table_write(source: &mut Source) -> Call<List> {
-    let given = lists::list(source);
+/// Reading one entry of a table.
+pub fn table_entry(source: &mut Source) -> Call<Row<u8>> {
+    table_entry_holding(source, None)
+}
+
+/// Reading one entry of a table that holds a BRACE label.
+pub fn brace_table_entry(source: &mut Source) -> Call<Row<u8>> {
+    table_entry_holding(source, Some(Scheme::Brace))
+}
+
+/// Writing the table of a list in which a scheme may be held. The buffer may also
+/// be as long as a header, one byte shorter, or as long as a table of one entry.
+fn table_write_holding(source: &mut Source, held: Option<Scheme>) -> Call<List> {
+    let given = lists::list(source, held);
     let capacity = match source.below(16) {
         0 => source.pick(&[2, 3, 69, 70]),
         _ => capacity_around(source, 3 + 67 * given.readers.len()),
@@ -148,18 +180,53 @@ pub fn table_write(source: &mut Source) -> Call<List> {
     Call { given, capacity, answer: answer_length(source) }
 }
 
+/// Writing the table of a list.
+pub fn table_write(source: &mut Source) -> Call<List> {
+    table_write_holding(source, None)
+}
+
+/// Writing the table of a list that holds a BRACE entry.
+pub fn brace_table_write(source: &mut Source) -> Call<List> {
+    table_write_holding(source, Some(Scheme::Brace))
+}
+
+/// The scheme of a number; LACE's labels and texts are made for an unknown one.
+fn scheme_of(number: u32) -> Scheme {
+    Scheme::of_number(number).unwrap_or(Scheme::Lace)
+}
+
+/// Writing through the C interface under a scheme's number.
+fn write_under(source: &mut Source, scheme: u32) -> Call<Row<u8>> {
+    let text = texts::text_bytes(source, scheme_of(scheme));
+    let capacity = capacity_around(source, 63);
+    call(source, text, scheme as usize, capacity)
+}
+
 /// Writing through the C interface.
 pub fn write(source: &mut Source) -> Call<Row<u8>> {
     let scheme = scheme_number(source);
-    let text = texts::text_bytes(source);
-    let capacity = capacity_around(source, 63);
-    call(source, text, scheme as usize, capacity)
+    write_under(source, scheme)
+}
+
+/// Writing through the C interface under BRACE.
+pub fn brace_write(source: &mut Source) -> Call<Row<u8>> {
+    write_under(source, 3)
+}
+
+/// Reading through the C interface under a scheme's number.
+fn read_under(source: &mut Source, scheme: u32) -> Call<Row<u8>> {
+    let label = labels::label(source, scheme_of(scheme));
+    let capacity = capacity_around(source, 252);
+    call(source, label, scheme as usize, capacity)
 }
 
 /// Reading through the C interface.
 pub fn read(source: &mut Source) -> Call<Row<u8>> {
     let scheme = scheme_number(source);
-    let label = labels::label(source, Scheme::of_number(scheme).unwrap_or(Scheme::Lace));
-    let capacity = capacity_around(source, 252);
-    call(source, label, scheme as usize, capacity)
+    read_under(source, scheme)
+}
+
+/// Reading through the C interface under BRACE.
+pub fn brace_read(source: &mut Source) -> Call<Row<u8>> {
+    read_under(source, 3)
 }

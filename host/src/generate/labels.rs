@@ -1,9 +1,10 @@
-//! Labels of both schemes, lawful and not.
+//! Labels of all schemes, lawful and not.
 
 use super::texts::{
-    ldh_text, point, points, random_bytes, some_runs, units_of, unpaired, NOT_POINTS, ROW_MAX,
+    ldh_text, point, points_for, random_bytes, some_runs, units_of, unpaired, NOT_POINTS, ROW_MAX,
 };
 use super::Source;
+use crate::brace::{self, Style};
 use crate::point::{HYPHEN, LABEL_MAX};
 use crate::scheme::Scheme;
 use crate::{altdude, lace};
@@ -27,7 +28,7 @@ pub fn change_case(source: &mut Source, label: &mut [u8]) {
 fn lawful_pair(source: &mut Source, scheme: Scheme) -> (Vec<u32>, Vec<u8>) {
     let mut buffer = [0; LABEL_MAX];
     loop {
-        let text = points(source);
+        let text = points_for(source, scheme);
         if let Ok(count) = scheme.encode(&text, &mut buffer) {
             return (text, buffer[..count].to_vec());
         }
@@ -183,11 +184,72 @@ fn lace_label(source: &mut Source) -> Vec<u8> {
     label
 }
 
+/// One fault of what stands before BRACE's signature: other bits at the end, other
+/// hyphens, or a group of copies in another place.
+fn brace_fault(source: &mut Source, coded: &mut Vec<u8>) {
+    let position = source.below(coded.len());
+    match source.below(8) {
+        0 => coded.push(b'2'),
+        1 => coded.extend(b"22"),
+        2 => coded[position] = source.pick(brace::CHARACTERS),
+        3 => coded.insert(position, b'-'),
+        4 => coded.extend(b"-"),
+        5 if position > 0 => coded.swap(position - 1, position),
+        6 => coded.insert(position, source.pick(b"aZ9")),
+        _ => {
+            coded.remove(position);
+        }
+    }
+}
+
+/// A BRACE label in a style that is mostly not its own, or with a fault.
+fn brace_near_miss(source: &mut Source) -> Vec<u8> {
+    let mut units = units_of(&points_for(source, Scheme::Brace));
+    units.truncate(source.between(1, 20));
+    let half_row = source.pick(&units) >> 7;
+    let style = source.pick(&[
+        brace::style_of(&units),
+        brace::style_of(&units),
+        Style::HalfRow(half_row),
+        Style::FullRow(half_row >> 1),
+        Style::Mixed(half_row),
+        Style::Mixed(half_row ^ 1),
+        Style::NoRow,
+    ]);
+    let symbols = brace::symbols_in(style, &units);
+    let mut label: Vec<u8> = symbols.iter().map(|symbol| symbol.byte()).collect();
+    label.truncate(label.len() - brace::SIGNATURE.len());
+    if source.once_in(2) {
+        brace_fault(source, &mut label);
+    }
+    label.extend(source.pick(&[brace::SIGNATURE, b"-8q9"]));
+    label
+}
+
+/// A BRACE label: lawful, plain or nearly so, or of any of its characters.
+fn brace_label(source: &mut Source) -> Vec<u8> {
+    match source.below(8) {
+        0..=3 => lawful(source, Scheme::Brace),
+        4 => {
+            let length = source.between(1, 20);
+            ldh_text(source, length).iter().map(|&point| point as u8).collect()
+        }
+        5 | 6 => brace_near_miss(source),
+        _ => {
+            let length = source.between(0, 16);
+            let mut label: Vec<u8> = (0..length).map(|_| source.pick(b"22IJSYZza9-")).collect();
+            label.extend(brace::SIGNATURE);
+            label
+        }
+    }
+}
+
 /// The characters of a scheme, and what its labels begin with.
 fn alphabet(scheme: Scheme) -> (&'static [u8], &'static [u8; 32]) {
     match scheme {
         Scheme::AltDude => (b"", altdude::CHARACTERS),
         Scheme::Lace => (lace::PREFIX, lace::CHARACTERS),
+        Scheme::Brace => (b"", brace::CHARACTERS),
     }
 }
 
@@ -226,10 +288,11 @@ pub fn label(source: &mut Source, scheme: Scheme) -> Vec<u8> {
     let mut label = match (source.below(32), scheme) {
         (0, _) => random_bytes(source, LABEL_MAX + 7),
         (1, _) => at_limit(source, scheme),
-        (2, Scheme::AltDude) => lace_label(source),
+        (2, Scheme::AltDude | Scheme::Brace) => lace_label(source),
         (2, Scheme::Lace) => altdude_label(source),
         (_, Scheme::AltDude) => altdude_label(source),
         (_, Scheme::Lace) => lace_label(source),
+        (_, Scheme::Brace) => brace_label(source),
     };
     for _ in 0..source.faults() {
         fault(source, &mut label, alphabet(scheme).1);

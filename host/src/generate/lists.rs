@@ -1,10 +1,10 @@
 //! Lists of entries to be written as a table, lawful and not.
 
 use super::labels::lawful_text;
-use super::tables::{entries, rising};
+use super::tables::{entries, rising, schemes};
 use super::texts::{ldh_text, text};
 use super::Source;
-use crate::scheme::Scheme;
+use crate::scheme::{Scheme, SCHEMES};
 
 /// An entry of a list: reader number, scheme number, text.
 pub type Entry = (u16, u32, Vec<u32>);
@@ -31,11 +31,12 @@ impl List {
     }
 }
 
-/// So many entries that may be written.
-pub fn lawful_entries(source: &mut Source, entries: usize) -> Vec<Entry> {
+/// So many entries that may be written. One of them has the scheme that is held,
+/// if any is.
+pub fn lawful_entries(source: &mut Source, entries: usize, held: Option<Scheme>) -> Vec<Entry> {
+    let readers = rising(source, entries);
     let mut list = Vec::new();
-    for reader in rising(source, entries) {
-        let scheme = source.pick(&[Scheme::AltDude, Scheme::Lace]);
+    for (reader, scheme) in readers.into_iter().zip(schemes(source, entries, held)) {
         list.push((reader, scheme.number(), lawful_text(source, scheme)));
     }
     list
@@ -43,7 +44,7 @@ pub fn lawful_entries(source: &mut Source, entries: usize) -> Vec<Entry> {
 
 /// The entries of a list: as many as a table has, at times none or too many, also
 /// so many that two bytes do not hold their number.
-fn some_entries(source: &mut Source) -> Vec<Entry> {
+fn some_entries(source: &mut Source, held: Option<Scheme>) -> Vec<Entry> {
     match source.below(1024) {
         0..=15 => Vec::new(),
         16 => {
@@ -52,7 +53,7 @@ fn some_entries(source: &mut Source) -> Vec<Entry> {
         }
         _ => {
             let entries = entries(source);
-            lawful_entries(source, entries)
+            lawful_entries(source, entries, held)
         }
     }
 }
@@ -69,8 +70,8 @@ fn entry_fault(source: &mut Source, entries: &mut [Entry]) {
         0 => entry.0 = before,
         1 => entry.0 = before.wrapping_sub(1),
         2 => entry.0 = source.pick(&[0, 255, 256, 65_535]),
-        3 | 4 => entry.1 = source.pick(&[0, 0, 3, 9, 256, 257, 258, 0x8000_0001, u32::MAX]),
-        5 => entry.1 = source.pick(&[1, 2]),
+        3 | 4 => entry.1 = source.pick(&[0, 0, 4, 9, 256, 257, 259, 0x8000_0001, u32::MAX]),
+        5 => entry.1 = source.pick(&SCHEMES).number(),
         6 => entry.2 = Vec::new(),
         7 => {
             let length = source.between(1, 63);
@@ -118,8 +119,9 @@ fn row_fault(source: &mut Source, list: &mut List) {
 }
 
 /// A list: lawful, or with faults of up to three entries, of the rows, or of both.
-pub fn list(source: &mut Source) -> List {
-    let mut entries = some_entries(source);
+/// Before them an entry has the scheme that is held, if any is.
+pub fn list(source: &mut Source, held: Option<Scheme>) -> List {
+    let mut entries = some_entries(source, held);
     for _ in 0..source.faults() {
         entry_fault(source, &mut entries);
     }

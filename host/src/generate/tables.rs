@@ -5,7 +5,7 @@ use super::Source;
 use crate::nametable::{ENTRIES_MAX, ENTRY_LENGTH, HEADER_LENGTH};
 use crate::papers::table_of;
 use crate::point::LABEL_MAX;
-use crate::scheme::Scheme;
+use crate::scheme::{Scheme, SCHEMES};
 
 /// So many reader numbers that rise: one or more, and 501 at most.
 pub fn rising(source: &mut Source, entries: usize) -> Vec<u16> {
@@ -16,11 +16,22 @@ pub fn rising(source: &mut Source, entries: usize) -> Vec<u16> {
     (0..=last).map(|index| first + index * step).collect()
 }
 
-/// A table of so many entries in order, with lawful labels.
-pub fn whole_table(source: &mut Source, entries: usize) -> Vec<u8> {
+/// The schemes of so many entries: one or more, and 501 at most. One of them is
+/// the scheme that is held, if any is.
+pub fn schemes(source: &mut Source, entries: usize, held: Option<Scheme>) -> Vec<Scheme> {
+    let mut schemes: Vec<Scheme> = (0..entries).map(|_| source.pick(&SCHEMES)).collect();
+    if let Some(scheme) = held {
+        schemes[source.below(entries)] = scheme;
+    }
+    schemes
+}
+
+/// A table of so many entries in order, with lawful labels. One of them has the
+/// scheme that is held, if any is.
+pub fn whole_table(source: &mut Source, entries: usize, held: Option<Scheme>) -> Vec<u8> {
+    let readers = rising(source, entries);
     let mut rows = Vec::new();
-    for reader in rising(source, entries) {
-        let scheme = source.pick(&[Scheme::AltDude, Scheme::Lace]);
+    for (reader, scheme) in readers.into_iter().zip(schemes(source, entries, held)) {
         rows.push((scheme.kind(), reader, lawful(source, scheme)));
     }
     table_of(&rows)
@@ -40,7 +51,11 @@ pub fn entries(source: &mut Source) -> usize {
 /// Puts another label, lawful or not, into the entry that begins at an index.
 fn change_label(source: &mut Source, table: &mut [u8], start: usize) {
     let scheme = Scheme::of_kind(table[start]).unwrap_or(Scheme::Lace);
-    let label = label(source, scheme);
+    let label = match scheme {
+        // a host label, which `label` makes seldom
+        Scheme::Lace if source.once_in(8) => b"lq--aiagcyq".to_vec(),
+        _ => label(source, scheme),
+    };
     let length = label.len().min(LABEL_MAX);
     table[start + 3] = length as u8;
     table[start + 4..start + ENTRY_LENGTH].fill(0);
@@ -51,8 +66,8 @@ fn change_label(source: &mut Source, table: &mut [u8], start: usize) {
 fn entry_fault(source: &mut Source, table: &mut [u8], start: usize) {
     let length = usize::from(table[start + 3]).clamp(1, LABEL_MAX);
     match source.below(10) {
-        0 => table[start] = source.pick(&[0x00, 0x40, 0x48, 0x61, 0x6C]),
-        1 => table[start] = source.pick(&[0x41, 0x4C]),
+        0 => table[start] = source.pick(&[0x00, 0x40, 0x43, 0x48, 0x61, 0x62, 0x6C]),
+        1 => table[start] = source.pick(&SCHEMES).kind(),
         2 => table[start + 1] = source.pick(&[0x00, 0xFF]),
         3 => table[start + 2] = source.byte(),
         4 => table[start + 3] = source.pick(&[0, 1, 62, 63, 64, 67, 255]),
@@ -103,10 +118,11 @@ fn fault(source: &mut Source, table: &mut Vec<u8>) {
     }
 }
 
-/// A table: whole, or with up to three faults.
-pub fn table(source: &mut Source) -> Vec<u8> {
+/// A table: whole, or with up to three faults. Before them one of its entries has
+/// the scheme that is held, if any is.
+pub fn table(source: &mut Source, held: Option<Scheme>) -> Vec<u8> {
     let entries = entries(source);
-    let mut table = whole_table(source, entries);
+    let mut table = whole_table(source, entries, held);
     for _ in 0..source.faults() {
         fault(source, &mut table);
     }

@@ -81,6 +81,11 @@ fn near_limit(source: &mut Source, scheme: Scheme) -> Vec<u32> {
         let next = if wide { point(source) } else { 0x430 + source.below(32) as u32 };
         text.push(if next == HYPHEN { 0x61 } else { next });
     }
+    cut_at_limit(source, scheme, text)
+}
+
+/// As much of a text whose label is too long as can be encoded, or one point more.
+fn cut_at_limit(source: &mut Source, scheme: Scheme, mut text: Vec<u32>) -> Vec<u32> {
     // The label of the first `fits` points is short enough, that of `over` is not.
     let (mut fits, mut over) = (1, text.len());
     while over - fits > 1 {
@@ -112,6 +117,62 @@ pub fn points(source: &mut Source) -> Vec<u32> {
         7 => in_turn(source.between(8, 13)),
         8 => near_limit(source, Scheme::AltDude),
         _ => near_limit(source, Scheme::Lace),
+    }
+}
+
+/// Points of one to four half-rows, of which two make a row, with LDH between.
+fn half_rows(source: &mut Source, length: usize) -> Vec<u32> {
+    let first = (source.pick(&HIGH_OCTETS) << 8) + source.pick(&[0x00, 0x80]);
+    let others = [point(source), point(source)].map(|point| point & !0x7F);
+    let starts = [first, first ^ 0x80, others[0], others[1]];
+    let half_rows = match source.below(3) {
+        0 => &starts[..2],
+        1 => &starts[1..3],
+        _ => &starts[..source.between(1, 4)],
+    };
+    let ldh_in_eight = source.pick(&[0, 0, 1, 4, 7]);
+    let mut next = || match source.below(8) < ldh_in_eight {
+        true => u32::from(source.pick(b"abXZ019---")),
+        false => source.pick(half_rows) + source.below(0x80) as u32,
+    };
+    (0..length).map(|_| next()).collect()
+}
+
+/// LDH points, with BRACE's signature at the end about as often as not.
+fn signed_ldh(source: &mut Source) -> Vec<u32> {
+    let length = source.between(1, 58);
+    let mut text = ldh_text(source, length);
+    if source.once_in(2) {
+        text.extend(source.pick(&[b"-8Q9", b"-8q9", b"-8Q8"]).map(u32::from));
+    }
+    text
+}
+
+/// A row of points for BRACE: seldom one that is not made for it.
+fn brace_points(source: &mut Source) -> Vec<u32> {
+    match source.below(16) {
+        0 => points(source),
+        1 | 2 => signed_ldh(source),
+        3 | 4 => {
+            let long = half_rows(source, LABEL_MAX + 2);
+            cut_at_limit(source, Scheme::Brace, long)
+        }
+        5 => {
+            let length = source.between(1, 66);
+            half_rows(source, length)
+        }
+        _ => {
+            let length = source.between(1, 14);
+            half_rows(source, length)
+        }
+    }
+}
+
+/// A row of points for a scheme.
+pub fn points_for(source: &mut Source, scheme: Scheme) -> Vec<u32> {
+    match scheme {
+        Scheme::Brace => brace_points(source),
+        Scheme::AltDude | Scheme::Lace => points(source),
     }
 }
 
@@ -161,9 +222,14 @@ pub fn unpaired(source: &mut Source) -> Vec<u16> {
 
 /// A row of units: pairs and others, with up to three surrogates put between.
 pub fn units(source: &mut Source) -> Vec<u16> {
+    units_for(source, Scheme::Lace)
+}
+
+/// A row of units for a scheme, made in the same way.
+fn units_for(source: &mut Source, scheme: Scheme) -> Vec<u16> {
     let mut units = match source.below(5) {
         0 => unpaired(source),
-        _ => units_of(&points(source)),
+        _ => units_of(&points_for(source, scheme)),
     };
     for _ in 0..source.faults() {
         let position = source.below(units.len() + 1);
@@ -175,11 +241,12 @@ pub fn units(source: &mut Source) -> Vec<u16> {
     units
 }
 
-/// A text as units for the C interface: also as long as is taken and longer.
-fn text_units(source: &mut Source) -> Vec<u16> {
+/// A text as units for BRACE or the C interface: also as long as the latter takes
+/// and longer.
+pub fn text_units(source: &mut Source, scheme: Scheme) -> Vec<u16> {
     let mut units = match source.below(3) {
-        0 => units(source),
-        _ => units_of(&points(source)),
+        0 => units_for(source, scheme),
+        _ => units_of(&points_for(source, scheme)),
     };
     match source.below(16) {
         0 => {
@@ -194,9 +261,9 @@ fn text_units(source: &mut Source) -> Vec<u16> {
 }
 
 /// A text as bytes for the C interface: units, some of them cut in half.
-pub fn text_bytes(source: &mut Source) -> Vec<u8> {
+pub fn text_bytes(source: &mut Source, scheme: Scheme) -> Vec<u8> {
     let mut bytes: Vec<u8> =
-        text_units(source).iter().flat_map(|unit| unit.to_be_bytes()).collect();
+        text_units(source, scheme).iter().flat_map(|unit| unit.to_be_bytes()).collect();
     match source.below(16) {
         0 => bytes.truncate(bytes.len().saturating_sub(1)),
         1 => bytes.push(source.byte()),

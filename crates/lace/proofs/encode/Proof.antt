@@ -9,7 +9,8 @@ use Rattle.ascii.proofs.text_is_host_label.Reads as text-is-host-label-reads
 use Rattle.utf16.specs.Answer.{unitsOutcome}
 use Rattle.labels.proofs.FirstTests.{check-stops, check-passes, text-checked}
 use Rattle.lace.specs.Answer.{encodeOutcome}
-use Rattle.lace.proofs.EncodeLaws.{Converted, converts, not-refused, units-fit, units-long, units-are, units-some, by-units, label-is, text-long}
+use Rattle.utf16.proofs.Converted.{Converted, converts, not-refused, units-fit, units-long, units-are, units-some}
+use Rattle.lace.proofs.EncodeLaws.{by-units, label-is, text-long}
 use Rattle.lace.proofs.encode.Statement.{statement}
 use Rattle.lace.proofs.encode.Tie as tie
 use Rattle.lace.proofs.encode.Reads as reads
@@ -49,7 +50,7 @@ converted u =
     let f = u .before .before in
     let p = f .before .before .before in
     let checked = text-checked _ (p .enum-told .given .1) _ _ (p .before .before .check-text .ensures) in
-    converts _ (checked .points) (f .if2 .left) _ _ (u .to-units .ensures .0) (omega arith) _ _ (u .to-units .ensures .1)
+    converts _ (checked .points) _ _ (u .to-units .ensures .0) (omega (arith, f .if2 .left)) _ _ (u .to-units .ensures .1)
 
 array-share-prefix-units : tie.Need-array-share-prefix-units
 unfolding unitsOutcome

@@ -14,7 +14,11 @@ returns-2 c = rw (c .if2 .taken)
 
 returns-3 : tie.Need-returns-3
 unfolding ownNumberNames firstWith schemes numberOf rowOf
-returns-3 c = rw (ne-eqb _ _ (c .before .if1 .left), ne-eqb _ _ (c .if2 .left))
+returns-3 c = rw (c .if3 .taken)
+
+returns-4 : tie.Need-returns-4
+unfolding ownNumberNames firstWith schemes numberOf rowOf
+returns-4 c = rw (ne-eqb _ _ (c .before .before .if1 .left), ne-eqb _ _ (c .before .if2 .left), ne-eqb _ _ (c .if3 .left))
 
 pub of-own-number-spec : {M : Type 1} → statement M
-of-own-number-spec = tie.close (tie.spec returns returns-2 returns-3)
+of-own-number-spec = tie.close (tie.spec returns returns-2 returns-3 returns-4)

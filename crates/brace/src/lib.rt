@@ -1,0 +1,60 @@
+// BRACE: encoding a text as a label, and decoding a label.
+mod bytes;
+mod choice;
+mod decoding;
+mod encoding;
+pub mod points;
+mod quintets;
+mod signature;
+pub mod style;
+
+use basis::ByteCount;
+use basis::BytesAnswer;
+use basis::ErrorCode;
+use labels::Check;
+use utf16::UnitsAnswer;
+ghost use mathlib.Core.Path.{_≡_};
+ghost use lib.ListN.{length};
+ghost use Rattle.basis.specs.Outcome.{bytesOutcome, bufferAfter};
+ghost use Rattle.utf16.specs.Answer.{unitsOutcome};
+ghost use Rattle.brace.specs.Encoding.{labelOf};
+ghost use Rattle.brace.specs.Decoding.{textOf};
+ghost use Rattle.brace.specs.Answer.{encodeOutcome, decodeOutcome};
+
+// Writes the label of a text.
+pub fn encode(units: &[u16], label: &mut [u8]) -> BytesAnswer
+    ensures { λ r. ⌜ bytesOutcome r ≡ encodeOutcome (length (now (label .entry))) (now (units .entry)) ⌝ }
+    ensures { λ _. ⌜ now (label .exit) ≡ bufferAfter (encodeOutcome (length (now (label .entry))) (now (units .entry))) (labelOf (now (units .entry))) (now (label .entry)) ⌝ }
+{
+    if label.len() < 63 {
+        return basis::bytes_error(ErrorCode::Capacity, 0);
+    }
+    let mut symbols = [0u8; 63];
+    let answer = encoding::put_symbols(units, &mut symbols);
+    match answer {
+        BytesAnswer::Error { code, position } => basis::bytes_error(code, position),
+        BytesAnswer::Bytes(count) => {
+            let n = count.0;
+            let written = bytes::put_bytes(&symbols[..n], label);
+            BytesAnswer::Bytes(ByteCount(written))
+        }
+    }
+}
+
+// Reads the text of a label.
+pub fn decode(label: &[u8], units: &mut [u16]) -> UnitsAnswer
+    ensures { λ r. ⌜ unitsOutcome r ≡ decodeOutcome (length (now (units .entry))) (now (label .entry)) ⌝ }
+    ensures { λ _. ⌜ now (units .exit) ≡ bufferAfter (decodeOutcome (length (now (units .entry))) (now (label .entry))) (textOf (now (label .entry))) (now (units .entry)) ⌝ }
+{
+    let check = labels::check_label(label.len(), units.len());
+    match check {
+        Check::Error { code, position } => {
+            return UnitsAnswer::Error { code, position };
+        }
+        Check::Passed => {}
+    }
+    if signature::label_is_signed(label) {
+        return decoding::decode_signed(label, units);
+    }
+    decoding::decode_plain(label, units)
+}
