@@ -29,7 +29,7 @@ extern "C" {
 #define DISTELHUT_ERR_TOO_LONG 1003u           /* the label is over 63 bytes, given or needed, or the text is over 252 bytes, under BRACE over 126 */
 #define DISTELHUT_ERR_EDGE_HYPHEN 1005u        /* an AltDUDE text or label, or a BRACE label without -8Q9, begins or ends with a hyphen */
 #define DISTELHUT_ERR_HOST_LABEL 1006u         /* a LACE text is a host label itself, and needs no other */
-#define DISTELHUT_ERR_OUTSIDE_ALPHABET 1007u   /* a byte of the label is none of the scheme's characters */
+#define DISTELHUT_ERR_OUTSIDE_ALPHABET 1007u   /* a byte of the label is none of the scheme's characters; under BRACE, of a label without -8Q9 */
 #define DISTELHUT_ERR_NO_PREFIX 1008u          /* a LACE label does not begin with lq-- */
 #define DISTELHUT_ERR_NOT_WELL_FORMED 1009u    /* the label is none that the scheme gives to a text */
 #define DISTELHUT_ERR_UNPAIRED_SURROGATE 1010u /* a UTF-16 surrogate of the text has no partner */

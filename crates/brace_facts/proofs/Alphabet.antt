@@ -1,15 +1,16 @@
 -- BRACE's characters, which are written in capitals: 32 letters and digits.
 use mathlib.Core.Path.{_≡_, refl}
 use mathlib.Core.Bool.{true}
-use Rattle.basis.specs.Tests.{both, within, every, firstBelow}
+use Rattle.basis.specs.Tests.{both, within, every}
 use Rattle.ascii.specs.Case.{isCapital, small}
 use Rattle.ascii.specs.Ldh.{isLdh}
-use Rattle.base32.specs.Alphabet.{brace, characterOf, isAlphabet, isDistinct}
+use Rattle.base32.specs.Alphabet.{brace, characterOf}
+use Rattle.base32.proofs.Inverse.{brace-alphabet}
 use Rattle.copying.specs.Symbols.{capital, Written}
 
 pub brace-written : Written brace capital
-unfolding isAlphabet isDistinct every firstBelow both within brace isCapital small capital characterOf
-brace-written = record { test = refl; folds = refl }
+unfolding every both within brace isCapital small capital characterOf
+brace-written = record { test = brace-alphabet; folds = refl }
 
 -- all are LDH
 pub brace-ldh : every 32 (λ q. isLdh (characterOf brace q)) ≡ true

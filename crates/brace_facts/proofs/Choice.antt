@@ -1,9 +1,10 @@
--- The half-row of mixed style is used, has the least M of those used, and is the lowest of them on ties;
--- and mixed style is chosen over no-row style exactly if it takes fewer characters.
+-- Which style is chosen: half-row and row style exactly if all codes are in one; the half-row of mixed
+-- style is used, has the least M of those used, and is the lowest of them on ties; and mixed style is
+-- chosen over no-row style exactly if it takes fewer characters.
 use Prim.Native.Nat.{ℕ, suc, _/_, _≤_, _<_}
 use mathlib.Core.Path.{_≡_, refl, sym, _∙_, ap}
 use mathlib.Core.Bool.{true, false, Bool}
-use mathlib.Core.Logic.{_⊎_, inl, inr, ⊎-elim}
+use mathlib.Core.Logic.{_↔_, _⊎_, inl, inr, ⊎-elim}
 use mathlib.Core.List.{List, [], _∷_}
 use lib.Dec.{eqb, ltb}
 use lib.ListN.{length}
@@ -11,11 +12,11 @@ use borrow.Author.Tests.{ltb-true, ltb-false, eqb-true, eq-eqb}
 use native.Mathlib.Omega.{arith}
 use Rattle.basis.specs.Tests.{everyIn, pick, both}
 use Rattle.basis.specs.Rows.{at}
-use Rattle.basis.proofs.Tests.{cases, both-left, both-right, from-first, true-not-false}
+use Rattle.basis.proofs.Tests.{cases, both-left, both-right, from-first, at-each, each-at, true-not-false}
 use Rattle.brace.specs.Choice.{styleFor, mixedOrNoRow, noRowCost, mixedCost, isBetter, bestOf}
 use Rattle.brace.specs.declared.style.Style.the-variants.{Mixed, HalfRow, Row, NoRow}
 use Rattle.brace.specs.declared.style.Style.{Style}
-use Rattle.brace_facts.specs.Choice.{BestHalf}
+use Rattle.brace_facts.specs.Choice.{BestHalf, AllIn}
 
 module _ (all : List ℕ) where
   -- h is as good as g: no more characters, and if as many, no higher
@@ -158,3 +159,81 @@ no-row-chosen [] e i h = absurd (omega arith)
 no-row-chosen (c ∷ cs) e i h =
     let n = no-row-left c cs (sym (shorter-left c cs (ap isOneRow e)) ∙ e) in
     omega (arith, n, best-half c cs .fewest i h)
+
+-- codes that are all in one group, by the test of the choice
+all-in : (size c : ℕ) (cs : List ℕ) (group : ℕ) → everyIn (λ x. eqb (x / size) (c / size)) cs ≡ true → c / size ≡ group → AllIn size (c ∷ cs) group
+all-in size c cs group e is = record {
+  some = omega arith;
+  each = from-first (λ i. at (c ∷ cs) i / size ≡ group) (length cs) is (λ i h. eqb-true _ _ (at-each (length cs) (λ k. eqb (at cs k / size) (c / size)) e i h) ∙ is);
+}
+
+module _ (size c : ℕ) (cs : List ℕ) (group : ℕ) (a : AllIn size (c ∷ cs) group) where
+  first-in : c / size ≡ group
+  first-in = a .each 0 (omega arith)
+
+  others-in : everyIn (λ x. eqb (x / size) (c / size)) cs ≡ true
+  others-in = each-at (length cs) (λ k. eqb (at cs k / size) (c / size)) (λ k h. eq-eqb _ _ (a .each (suc k) (omega arith) ∙ sym first-in))
+
+unfoldable isHalfRow : Style → Bool
+isHalfRow (HalfRow h) = true
+isHalfRow (Row r) = false
+isHalfRow (Mixed h) = false
+isHalfRow NoRow = false
+
+unfoldable isRow : Style → Bool
+isRow (HalfRow h) = false
+isRow (Row r) = true
+isRow (Mixed h) = false
+isRow NoRow = false
+
+-- what is left after half-row style, and after row style
+row-or-shorter : (b : Bool) (r : ℕ) (codes : List ℕ) (g : ℕ) → isHalfRow (pick b (Row r) (mixedOrNoRow codes g)) ≡ false
+unfolding isHalfRow mixedOrNoRow
+row-or-shorter true r codes g = refl
+row-or-shorter false r codes g = cases (ltb (mixedCost codes g) (noRowCost codes)) (λ l. rw l) (λ l. rw l)
+
+no-row-or-mixed : (codes : List ℕ) (g : ℕ) → isRow (mixedOrNoRow codes g) ≡ false
+unfolding isRow mixedOrNoRow
+no-row-or-mixed codes g = cases (ltb (mixedCost codes g) (noRowCost codes)) (λ l. rw l) (λ l. rw l)
+
+module _ (c : ℕ) (cs : List ℕ) where
+  half-row-all : (h : ℕ) → styleFor (c ∷ cs) ≡ HalfRow h → AllIn 128 (c ∷ cs) h
+  unfolding styleFor isHalfRow
+  half-row-all h e =
+      cases (everyIn (λ x. eqb (x / 128) (c / 128)) cs)
+      (λ a. let q : HalfRow (c / 128) ≡ HalfRow h = rw a at e in all-in 128 c cs h a cc)
+      (λ a. absurd (true-not-false (ap isHalfRow (rw a at e)) (row-or-shorter (everyIn (λ x. eqb (x / 256) (c / 256)) cs) (c / 256) (c ∷ cs) (best c cs))))
+
+  all-half-row : (h : ℕ) → AllIn 128 (c ∷ cs) h → styleFor (c ∷ cs) ≡ HalfRow h
+  unfolding styleFor
+  all-half-row h w = rw (others-in 128 c cs h w) (ap HalfRow (first-in 128 c cs h w))
+
+  row-all : (r : ℕ) → styleFor (c ∷ cs) ≡ Row r → AllIn 256 (c ∷ cs) r × ((h : ℕ) → AllIn 128 (c ∷ cs) h → ⊥)
+  unfolding styleFor isRow
+  row-all r e = (
+    cases (everyIn (λ x. eqb (x / 128) (c / 128)) cs)
+        (λ a. absurd (true-not-false refl (sym (ap isRow (rw a at e)))))
+        (λ a. cases (everyIn (λ x. eqb (x / 256) (c / 256)) cs)
+        (λ b. let q : Row (c / 256) ≡ Row r = rw (a, b) at e in all-in 256 c cs r b cc)
+        (λ b. absurd (true-not-false (ap isRow (rw (a, b) at e)) (no-row-or-mixed (c ∷ cs) (best c cs))))),
+    λ h w. true-not-false refl (sym (ap isRow (sym (all-half-row h w) ∙ e))),
+  )
+
+  all-row : (r : ℕ) → AllIn 256 (c ∷ cs) r → ((h : ℕ) → AllIn 128 (c ∷ cs) h → ⊥) → styleFor (c ∷ cs) ≡ Row r
+  unfolding styleFor
+  all-row r w apart =
+      cases (everyIn (λ x. eqb (x / 128) (c / 128)) cs)
+      (λ a. absurd (apart (c / 128) (all-in 128 c cs (c / 128) a refl)))
+      (λ a. rw (a, others-in 256 c cs r w) (ap Row (first-in 256 c cs r w)))
+
+-- half-row style exactly if all codes are in one half-row
+pub half-row-chosen : (codes : List ℕ) (h : ℕ) → (styleFor codes ≡ HalfRow h) ↔ AllIn 128 codes h
+unfolding styleFor isHalfRow
+half-row-chosen [] h = (λ e. absurd (true-not-false refl (sym (ap isHalfRow e))), λ w. absurd (omega (arith, w .some)))
+half-row-chosen (c ∷ cs) h = (half-row-all c cs h, all-half-row c cs h)
+
+-- row style exactly if all are in one row and not in one half-row
+pub row-chosen : (codes : List ℕ) (r : ℕ) → (styleFor codes ≡ Row r) ↔ (AllIn 256 codes r × ((h : ℕ) → AllIn 128 codes h → ⊥))
+unfolding styleFor isRow
+row-chosen [] r = (λ e. absurd (true-not-false refl (sym (ap isRow e))), λ w. absurd (omega (arith, w .0 .some)))
+row-chosen (c ∷ cs) r = (row-all c cs r, λ w. all-row c cs r (w .0) (w .1))

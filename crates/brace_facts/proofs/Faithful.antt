@@ -10,7 +10,6 @@ use borrow.Author.Tests.{not-false}
 use native.Mathlib.Omega.{arith}
 use Rattle.basis.specs.Causes.{whole, placed, Absent}
 use Rattle.basis.specs.Codec.{Writable, Readable}
-use Rattle.basis.specs.Rows.{AllBelow}
 use Rattle.basis.proofs.Tests.{true-not-false, at-each}
 use Rattle.basis.proofs.Causes.{absent-whole}
 use Rattle.basis.proofs.Codec.{Faithful}
@@ -20,7 +19,7 @@ use Rattle.labels.specs.Causes.{Empty}
 use Rattle.labels.specs.Causes as labels
 use Rattle.base32.specs.Alphabet.{brace}
 use Rattle.copying.specs.Symbols.{areFor, capital}
-use Rattle.copying.proofs.Facts.{same-spelled, same-text, same-length, same-edges, written-same, faithful, alike}
+use Rattle.copying.proofs.Facts.{same-spelled, same-text, same-length, same-edges, faithful, alike}
 use Rattle.brace.specs.Signature.{signature, isSigned}
 use Rattle.brace.specs.Encoding.{symbolsOf, labelOf}
 use Rattle.brace.specs.Decoding.{textOf}
@@ -63,7 +62,3 @@ brace-faithful = faithful codec brace capital symbolsOf _ _ copying-facts encode
 
 pub brace-alike : ReadAlike codec
 brace-alike = alike codec brace capital symbolsOf _ _ copying-facts brace-faithful
-
--- the label that is written of a row of units counts as its label
-pub brace-written-same : (t : List ℕ) → AllBelow 65536 t → SpellsUnits t (labelOf t)
-brace-written-same t row = written-same codec brace capital symbolsOf _ _ copying-facts t row

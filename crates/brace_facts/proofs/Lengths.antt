@@ -1,17 +1,17 @@
 -- A label has at least as many bytes as its text has units.
-use Prim.Native.Nat.{ℕ, _+_, _-_, _≤_}
+use Prim.Native.Nat.{ℕ, _+_, _≤_}
 use mathlib.Core.Path.{_≡_}
 use mathlib.Core.Bool.{Bool, false, not}
-use mathlib.Core.List.{List, [], _∷_, map}
+use mathlib.Core.List.{List, [], _∷_}
 use lib.Dec.{eqb}
 use lib.ListN.{length, length-append, length-map}
 use native.Mathlib.Omega.{arith}
 use Rattle.basis.specs.Tests.{pick}
-use Rattle.basis.specs.Rows.{at, AllBelow}
+use Rattle.basis.specs.Rows.{AllBelow}
 use Rattle.basis.proofs.Tests.{cases}
 use Rattle.ascii.specs.Ldh.{isLdh}
 use Rattle.base32.specs.Alphabet.{brace}
-use Rattle.copying.specs.Symbols.{byteOf, bytesOf, capital, quintets}
+use Rattle.copying.specs.Symbols.{byteOf, bytesOf, capital}
 use Rattle.copying.specs.Modes.{copyingAfter}
 use Rattle.copying.proofs.Lengths.{length-quintets, length-switch}
 use Rattle.brace.specs.declared.style.Style.{Style}

@@ -14,6 +14,11 @@ pub record BestHalf (codes : List ℕ) (h : ℕ) : Type 0 where
   pub fewest : (i : ℕ) → i < length codes → mixedCost codes h ≤ mixedCost codes (at codes i / 128)
   pub lowest : (i : ℕ) → i < length codes → mixedCost codes h ≡ mixedCost codes (at codes i / 128) → h ≤ at codes i / 128
 
+-- there are codes, and all are in this group of so many units: 128 make a half-row, 256 a row
+pub record AllIn (size : ℕ) (codes : List ℕ) (group : ℕ) : Type 0 where
+  pub some : 1 ≤ length codes
+  pub each : (i : ℕ) → i < length codes → at codes i / size ≡ group
+
 -- how many symbols of a row are coded
 unfoldable pub codedCount : List ℕ → ℕ
 codedCount [] = 0

@@ -6,10 +6,8 @@ use mathlib.Core.List.{List, [], _∷_, _++_, map}
 use lib.ListN.{length}
 use Rattle.basis.specs.Tests.{both}
 use Rattle.basis.specs.Outcome.{done}
-use Rattle.ascii.specs.Case.{small}
 use Rattle.base32.specs.Alphabet.{brace}
 use Rattle.copying.specs.Symbols.{areFor}
-use Rattle.brace.specs.Signature.{signature}
 use Rattle.brace.specs.Encoding.{symbolsOf, labelOf}
 use Rattle.brace.specs.Decoding.{textOf}
 use Rattle.brace.specs.Answer.{decodeOutcome}

@@ -1,5 +1,5 @@
 -- BRACE is as the draft says.
-use Prim.Native.Nat.{ℕ, _*_, _%_, _≤_}
+use Prim.Native.Nat.{ℕ, _*_, _%_}
 use mathlib.Core.Path.{_≡_, refl, sym, ap, _∙_}
 use mathlib.Core.Bool.{false}
 use mathlib.Core.List.{List}
@@ -20,7 +20,7 @@ use Rattle.brace.specs.Decoding.{textOf}
 use Rattle.brace.specs.Answer.{encodeOutcome, decodeOutcome}
 use Rattle.brace.specs.Points as points
 use Rattle.brace_facts.proofs.Procedure.{procedure-is}
-use Rattle.brace_facts.proofs.Choice.{mixed-chosen, no-row-chosen}
+use Rattle.brace_facts.proofs.Choice.{half-row-chosen, row-chosen, mixed-chosen, no-row-chosen}
 use Rattle.brace_facts.proofs.Cost.{mixed-cost, no-row-cost}
 use Rattle.brace_facts.proofs.Examples.{computed, computed-refusals}
 use Rattle.brace_facts.proofs.Published.{published}
@@ -86,6 +86,8 @@ pub brace-as-drafted : BraceAsDrafted
 unfolding styleOf
 brace-as-drafted = record {
   procedure = procedure-is;
+  halfRow = λ text. half-row-chosen (codesOf text);
+  row = λ text. row-chosen (codesOf text);
   mixed = λ text. mixed-chosen (codesOf text);
   noRow = λ text e i h. no-row-chosen (codesOf text) e i (omega (arith, h));
   mixedCounts = mixed-cost;

@@ -18,7 +18,7 @@ use Rattle.utf16.specs.Bytes.{unitsOfBytes, pointsOf, bytesOf}
 use Rattle.utf16.specs.Causes.{UnpairedAt}
 use Rattle.utf16.proofs.RoundTrip.{some-toUnits, length-bytesOf, length-bytesOf-units, paired-bytesOf, pointsOf-bytesOf, bytesOf-pointsOf}
 use Rattle.scheme.specs.Naming.{numberNames, schemeNamed}
-use Rattle.scheme.specs.Coding.{codecOf, labelOf, textOf}
+use Rattle.scheme.specs.Coding.{codecOf, textOf}
 use Rattle.scheme.proofs.Naming.{zero-is-one}
 use Rattle.scheme.proofs.Coding.{faithful, label-some, writable-text, decoded-short}
 use Rattle.scheme.specs.declared.Scheme.{Scheme}

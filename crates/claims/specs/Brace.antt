@@ -1,6 +1,7 @@
 -- What BRACE promises beyond the demands, which pin neither its styles nor its choice among them: it is as the draft says.
 use Prim.Native.Nat.{ℕ, _*_, _/_, _≤_, _<_}
 use mathlib.Core.Path.{_≡_}
+use mathlib.Core.Logic.{_↔_}
 use mathlib.Core.List.{List}
 use lib.Dec.{eqb, ltb}
 use lib.ListN.{length}
@@ -12,9 +13,9 @@ use Rattle.brace.specs.Choice.{codesOf, mixedCost, noRowCost, styleOf}
 use Rattle.brace.specs.Encoding.{bodyOf, labelOf}
 use Rattle.brace.specs.Decoding.{textOf}
 use Rattle.brace.specs.Answer.{encodeOutcome, decodeOutcome}
-use Rattle.brace.specs.declared.style.Style.the-variants.{Mixed, NoRow}
+use Rattle.brace.specs.declared.style.Style.the-variants.{HalfRow, Row, Mixed, NoRow}
 use Rattle.brace_facts.specs.Procedure.{draftBody}
-use Rattle.brace_facts.specs.Choice.{BestHalf, codedCount}
+use Rattle.brace_facts.specs.Choice.{BestHalf, AllIn, codedCount}
 use Rattle.brace_facts.specs.KnownLabels.{Computed, ComputedRefusals}
 use Rattle.brace_facts.specs.Published.{Published}
 use Rattle.firmware.specs.Answer.{writeOutcome, writtenLabel, readOutcome, readText}
@@ -23,6 +24,10 @@ use Rattle.firmware.specs.Answer.{writeOutcome, writtenLabel, readOutcome, read
 pub record BraceAsDrafted : Type 0 where
   -- the draft's own procedure, with its queue of bits and its buffer of LDH, gives the symbols before the signature
   pub procedure : (text : List ℕ) → AllBelow 65536 text → draftBody (styleOf text) text ≡ bodyOf (styleOf text) text
+  -- half-row style is chosen exactly if all units that are not LDH are in one half-row, row style exactly if all are in one row and not
+  -- in one half-row
+  pub halfRow : (text : List ℕ) (half : ℕ) → (styleOf text ≡ HalfRow half) ↔ AllIn 128 (codesOf text) half
+  pub row : (text : List ℕ) (row : ℕ) → (styleOf text ≡ Row row) ↔ (AllIn 256 (codesOf text) row × ((half : ℕ) → AllIn 128 (codesOf text) half → ⊥))
   -- in mixed style the half-row is used, has the least M and is the lowest with it, and that M is less than M'
   pub mixed : (text : List ℕ) (half : ℕ) → styleOf text ≡ Mixed half
       → BestHalf (codesOf text) half × (mixedCost (codesOf text) half < noRowCost (codesOf text))
@@ -35,14 +40,14 @@ pub record BraceAsDrafted : Type 0 where
   pub known : Computed
   pub knownRefusals : ComputedRefusals
   pub published : Published
-  -- at the C interface, after the paper's own tests, the units of a text go to BRACE as they are
+  -- the C interface answers, after the paper's own tests, as if the units of a text went to BRACE straight
   pub interfaceWrites : (capacity : ℕ) (bytes : List ℕ) → AllBelow 256 bytes
       → writeOutcome 3 capacity bytes
       ≡ refusedIf (ltb capacity 63) 1 0 (refusedIf (isOdd (length bytes)) 12 0 (refusedIf (eqb (length bytes) 0) 2 0 (refusedIf (ltb 252 (length bytes)) 3 0
       (encodeOutcome capacity (unitsOfBytes bytes)))))
   pub interfaceLabel : (capacity count : ℕ) (bytes : List ℕ) → AllBelow 256 bytes → writeOutcome 3 capacity bytes ≡ done count
       → writtenLabel 3 bytes ≡ labelOf (unitsOfBytes bytes)
-  -- and so do the units that it reads
+  -- and as if the units that it reads came back straight
   pub interfaceReads : (capacity : ℕ) (label : List ℕ)
       → readOutcome 3 capacity label ≡ refusedIf (ltb capacity 252) 1 0 (andThen (λ position. position) (decodeOutcome 63 label) (done (2 * length (textOf label))))
   pub interfaceText : (count : ℕ) (label : List ℕ) → decodeOutcome 63 label ≡ done count → readText 3 label ≡ bytesOfUnits (textOf label)

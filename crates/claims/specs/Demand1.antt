@@ -32,6 +32,7 @@ use Rattle.lace.specs.Answer as lace
 use Rattle.brace.specs.Encoding as brace-encoding
 use Rattle.brace.specs.Decoding as brace-decoding
 use Rattle.brace.specs.Answer as brace
+use Rattle.brace.specs.Points as brace-points
 use Rattle.scheme.specs.declared.Scheme.{Scheme}
 use Rattle.scheme.specs.declared.Scheme.the-variants.{Altdude, Lace, Brace}
 use Rattle.scheme.specs.Coding as scheme
@@ -147,7 +148,7 @@ pub record Demand1 : Type 0 where
   -- labels: what the first tests answer where nothing follows
   pub checkText : (capacity : ℕ) (text : List ℕ) → Listed (1 ∷ 2 ∷ 4 ∷ []) (textTests capacity text (done 0))
   pub checkLabel : (capacity bytes : ℕ) → Listed (1 ∷ 2 ∷ 3 ∷ []) (labelTests capacity bytes (done 0))
-  -- altdude, lace, brace from units and to units, and by scheme
+  -- altdude, lace, brace of units and of points, and by scheme
   pub altdudeEncode : (text label : List ℕ)
       → Answers (encodeCodes Altdude) (altdude.encodeOutcome (length label) text) (altdude-encoding.labelOf text) label
   pub altdudeDecode : (label text : List ℕ)
@@ -160,6 +161,10 @@ pub record Demand1 : Type 0 where
       → Answers (1 ∷ 2 ∷ 10 ∷ 3 ∷ []) (brace.encodeOutcome (length label) units) (brace-encoding.labelOf units) label
   pub braceDecode : (label units : List ℕ)
       → Answers (decodeCodes Brace) (brace.decodeOutcome (length units) label) (brace-decoding.textOf label) units
+  pub bracePointsEncode : (text label : List ℕ)
+      → Answers (encodeCodes Brace) (brace-points.encodeOutcome (length label) text) (brace-points.labelOf text) label
+  pub bracePointsDecode : (label text : List ℕ)
+      → Answers (decodeCodes Brace) (brace-points.decodeOutcome (length text) label) (brace-points.textOf label) text
   pub schemeEncode : (s : Scheme) (text label : List ℕ)
       → Answers (encodeCodes s) (scheme.encodeOutcome s (length label) text) (scheme.labelOf s text) label
   pub schemeDecode : (s : Scheme) (label text : List ℕ)

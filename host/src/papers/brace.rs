@@ -160,7 +160,7 @@ const fn cut(letter: char, letter_in_003: char, printed: &'static str) -> Exampl
 }
 
 /// Every example of source document 001. Their texts are those of 003 under other
-/// letters; that of Q, whose heading our copy lost, is made from its line of UTF-8
+/// letters; that of Q, whose line our copy lost, is made from its line of UTF-8
 /// and the names under it.
 pub const EXAMPLES_001: [Example001; 18] = [
     example('A', 'L', "u-3-ygj-b-ynb6gjc7pp4k5p5w"),
