@@ -1,4 +1,5 @@
--- Which style a text has: its units that are not LDH alone decide, the codes of the text.
+-- Which style a text has: its units that are not LDH alone decide. They are called the codes of the
+-- text here; the bits that stand for a unit in a style are `Style.codeOf`.
 use Prim.Native.Nat.{ℕ, _+_, _-_, _*_, _/_}
 use mathlib.Core.Bool.{Bool, _||_}
 use mathlib.Core.List.{List, [], _∷_}

@@ -58,15 +58,16 @@ unfoldable pub textFrom : Style → Mode → (k v : ℕ) → List ℕ → List �
 textFrom s m k v [] = []
 textFrom s m k v (b ∷ l) = adds s m k v b (textFrom s (nextMode m b) (nextCount s m k v b) (nextValue s m k v b) l)
 
--- the style of a body by its two bits (0 to 3): how many characters its head takes
+-- the head of a body is the characters that hold the bits of the style: how many they are, by the
+-- style's two bits (0 to 3)
 unfoldable pub headLength : (kind : ℕ) → ℕ
 headLength kind = pick (eqb kind 0) 3 (pick (eqb kind 1) 2 (pick (eqb kind 2) 3 1))
 
--- how many bits of the first code they hold
+-- how many bits of the first code the head holds besides
 unfoldable pub headSpare : (kind : ℕ) → ℕ
 headSpare kind = pick (eqb kind 0) 4 (pick (eqb kind 1) 0 (pick (eqb kind 2) 4 3))
 
--- the style, by the number that they hold
+-- the style, by its two bits and the number that the head's quintets make
 unfoldable pub headStyle : (kind x : ℕ) → Style
 headStyle kind x = pick (eqb kind 0) (HalfRow (x / 16 % 512)) (pick (eqb kind 1) (Row (x % 256)) (pick (eqb kind 2) (Mixed (x / 16 % 512)) NoRow))
 

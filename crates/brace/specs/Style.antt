@@ -1,5 +1,5 @@
 -- The four styles: the bits before the codes, and the bits of the code of each unit that is not LDH.
--- A half-row is 128 units (unit / 128), a row 256 (unit / 256).
+-- A half-row is 128 units (unit / 128), a row 256 (unit / 256). The draft's full-row style is `Row`.
 use Prim.Native.Nat.{ℕ, _+_, _-_, _*_, _/_, _%_}
 use lib.Dec.{eqb, ltb}
 use Rattle.basis.specs.Tests.{pick}

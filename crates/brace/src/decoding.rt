@@ -323,7 +323,8 @@ pub(crate) fn are_for(symbols: &[u8], bytes: &[u8]) -> bool
     true
 }
 
-// Whether the units may be written, and the label is theirs; an error writes no symbol, so no label is read as none.
+// Whether the units may be written, and the label is theirs. If they may not, no symbol is written, and a label of one byte or more
+// is not read as no symbols.
 fn has_label(units: &[u16], label: &[u8]) -> bool
     requires { ⌜ 0 < length (now label) ⌝ }
     ensures { λ r. ⌜ r ≡ both (isDone (encodeOutcome 63 (now (units .entry)))) (areFor brace (symbolsOf (now (units .entry))) (now (label .entry))) ⌝ }

@@ -71,7 +71,8 @@ otherTexts =
 
 -- labels that no text has: A2ZI-8Q9, I2RS-8Q9, 22693-8Q9, 22ZI--8Q9, S-abc-8Q9, 22E6-8Q9, S-8Q9,
 -- 222-8Q9, 22ZJ-8Q9, 22-8Q9, 8S9S-8Q9, a.b-8Q9, -ab-8Q9, S2ZI-8Q9, JIK6B833HS6Q2-8Q9,
--- TI-a-AASC6MI2-8Q9, ab-8q9, -8Q9, 22ZI-.-8Q9
+-- TI-a-AASC6MI2-8Q9, ab-8q9, -8Q9, 22ZI-.-8Q9. In JIK6B833HS6Q2-8Q9 the half-row is the higher of
+-- a tie, in TI-a-AASC6MI2-8Q9 the letter comes a character late, and S2ZI-8Q9 is no-row style for FC.
 unfoldable pub noLabels : List (List ℕ)
 noLabels =
     (65 ∷ 50 ∷ 90 ∷ 73 ∷ 45 ∷ 56 ∷ 81 ∷ 57 ∷ [])

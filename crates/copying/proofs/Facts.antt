@@ -24,10 +24,11 @@ with-case : (g : List ℕ → List ℕ) → ((x : List ℕ) → map small (g (ma
 with-case g h x y e = sym (h x) ∙ ap (λ (z : List ℕ). map small (g z)) e ∙ h y
 
 module _ (c : Codec) (alphabet : List ℕ) (form : ℕ → ℕ) (symbolsOf : List ℕ → List ℕ) where
-  -- labels are the bytes of symbols; the bytes that count as the label of a text are those written
-  -- for its symbols; texts are the same that differ at most in case; a test tells which may be
-  -- written; bytes that are read as the symbols of their own text give a row of the right kind, and
-  -- those of any such row give that row; text and label go with case
+  -- the facts about a codec that copies letters, over its symbols: a label is the bytes of the text's
+  -- symbols, and bytes count as the label of a text if they are read as its symbols; a Bool test says
+  -- which texts may be written; a label that is read as the symbols of its own text has a text of the
+  -- right kind, and a label of a text that may be written is read to that text; the small form of a
+  -- text or label depends on the small form of the other alone
   pub record CopyingFacts (IsRow : List ℕ → Type 0) (isWritable : List ℕ → Bool) : Type 0 where
     pub alphabet-written : Written alphabet form
     pub label-is : (t : List ℕ) → c .labelOf t ≡ bytesOf alphabet form (symbolsOf t)
