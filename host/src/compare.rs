@@ -100,29 +100,34 @@ trait Compared: Copy {
     fn call(self, rows: &Self::Rows, buffer: &mut [Self::Filled], answer: &mut [u64]);
 }
 
-/// One row that is given, and the number beside it.
+/// One row that is given, and the number or the numbers beside it.
 #[derive(Clone, PartialEq)]
-struct GuardedRow<G> {
+struct GuardedRow<G, N> {
     row: Guarded<G>,
-    number: usize,
+    number: N,
 }
 
-impl<G: Element> fmt::Display for GuardedRow<G> {
+impl<G: Element, N: fmt::Debug> fmt::Display for GuardedRow<G, N> {
     fn fmt(&self, out: &mut fmt::Formatter) -> fmt::Result {
-        write!(out, "\n    number {}\n    given {}", self.number, self.row)
+        write!(out, "\n    number {:?}\n    given {}", self.number, self.row)
     }
 }
 
-impl<G: Element, B: Element> Compared for Function<G, B> {
-    type Given = Row<G>;
-    type Rows = GuardedRow<G>;
+impl<G, B, N> Compared for Function<G, B, N>
+where
+    G: Element,
+    B: Element,
+    N: Copy + PartialEq + fmt::Debug,
+{
+    type Given = Row<G, N>;
+    type Rows = GuardedRow<G, N>;
     type Filled = B;
 
-    fn rows(source: &mut Source, given: &Row<G>) -> GuardedRow<G> {
+    fn rows(source: &mut Source, given: &Row<G, N>) -> GuardedRow<G, N> {
         GuardedRow { row: Guarded::holding(source, &given.elements), number: given.number }
     }
 
-    fn call(self, rows: &GuardedRow<G>, buffer: &mut [B], answer: &mut [u64]) {
+    fn call(self, rows: &GuardedRow<G, N>, buffer: &mut [B], answer: &mut [u64]) {
         self(rows.row.row(), rows.number, buffer, answer);
     }
 }
@@ -320,9 +325,10 @@ macro_rules! comparison {
 }
 
 /// The functions that are compared, each with the calls that are made of it and
-/// with all the codes that it can answer with. Those of the table are compared
-/// again on tables and lists that hold BRACE, those of the C interface on scheme 3.
-pub const COMPARISONS: [(&str, Comparison); 20] = [
+/// with all the codes that it can answer with. Those that read or write 01's table, or
+/// read an entry of it, are compared again on tables and lists that hold BRACE, those
+/// of the C interface on scheme 3.
+pub const COMPARISONS: [(&str, Comparison); 26] = [
     comparison!(to_units, to_units, [1, 4]),
     comparison!(to_points, to_points, [1, 10]),
     comparison!(altdude_encode, encode, [1, 2, 3, 4, 5]),
@@ -335,6 +341,12 @@ pub const COMPARISONS: [(&str, Comparison); 20] = [
     comparison!(table_entry, table_entry, [1, 5, 6, 7, 8, 9, 13, 14]),
     comparison!(table_judged_entry, table_entry, [1, 5, 6, 7, 8, 9, 13, 14]),
     comparison!(table_write, table_write, [1, 2, 3, 4, 5, 6, 14]),
+    comparison!(table_header, table_header, [13, 14]),
+    comparison!(table_lone_entry, table_lone_entry, [1, 5, 6, 7, 8, 9, 13, 14]),
+    comparison!(short_read, short_read, [5, 6, 7, 8, 9, 13, 14]),
+    comparison!(short_entry, short_entry, [1, 5, 6, 7, 8, 9, 13, 14]),
+    comparison!(to_short, to_short, [1, 5, 6, 7, 8, 9, 13, 14]),
+    comparison!(to_long, to_long, [1, 5, 6, 7, 8, 9, 13, 14]),
     comparison!(write, write, [1, 2, 3, 5, 6, 10, 11, 12]),
     comparison!(read, read, [1, 2, 3, 5, 6, 7, 8, 9, 11]),
     comparison!("table_read, BRACE", table_read, brace_table_read, [5, 6, 7, 8, 9, 13, 14]),

@@ -5,24 +5,25 @@ use crate::c_interface::{self, ERROR_BASE};
 use crate::error::Error;
 use crate::scheme::Scheme;
 use crate::utf16::{self, PointCount, UnitCount};
-use crate::{altdude, brace, lace, nametable};
+use crate::{altdude, brace, lace, nametable, short_table};
 
 /// Code (0 when done), position, count, and for an entry of a table reader
 /// number and scheme number.
 pub type Numbers = [u64; 5];
 
-/// A function on the row given, the number beside it (a count, an index or a
-/// scheme number, else it is not looked at), the buffer to fill, and the row in
-/// which the five numbers of the answer are stored.
-pub type Function<G, B> = fn(&[G], usize, &mut [B], &mut [u64]);
+/// A function on the row given, the number beside it (a count, an index, a scheme
+/// number or a header's kind, else it is not looked at), the buffer to fill, and the
+/// row in which the five numbers of the answer are stored. Beside an entry by itself
+/// are two numbers, its least reader number and its position.
+pub type Function<G, B, N = usize> = fn(&[G], N, &mut [B], &mut [u64]);
 
 /// The function that writes a table: rows of reader numbers, scheme numbers,
 /// lengths of texts and the points of all texts, the buffer to fill, and the row
 /// of the five numbers.
 pub type TableWrite = fn(&[u16], &[u32], &[usize], &[u32], &mut [u8], &mut [u64]);
 
-/// The functions of an implementation, and what it is called. Reading a table
-/// fills no buffer.
+/// The functions of an implementation, and what it is called. Reading a table or
+/// its header fills no buffer.
 #[derive(Clone, Copy)]
 pub struct Implementation {
     pub name: &'static str,
@@ -38,6 +39,12 @@ pub struct Implementation {
     pub table_entry: Function<u8, u32>,
     pub table_judged_entry: Function<u8, u32>,
     pub table_write: TableWrite,
+    pub table_header: Function<u8, u8>,
+    pub table_lone_entry: Function<u8, u32, [usize; 2]>,
+    pub short_read: Function<u8, u8>,
+    pub short_entry: Function<u8, u32>,
+    pub to_short: Function<u8, u8>,
+    pub to_long: Function<u8, u8>,
     pub write: Function<u8, u8>,
     pub read: Function<u8, u8>,
 }
@@ -89,6 +96,18 @@ pub const INDEPENDENT: Implementation = Implementation {
     table_write: |readers, schemes, lengths, points, table, answer| {
         store(numbers(nametable::write(readers, schemes, lengths, points, table)), answer);
     },
+    table_header: |table, kind, _, answer| {
+        store(numbers(nametable::header(kind as u8, table)), answer);
+    },
+    table_lone_entry: |entry, [least, position], text, answer| {
+        store(entry_numbers(nametable::lone_entry(entry, least, position, text)), answer);
+    },
+    short_read: |table, _, _, answer| store(numbers(short_table::read(table)), answer),
+    short_entry: |table, index, text, answer| {
+        store(entry_numbers(short_table::entry(table, index, text)), answer);
+    },
+    to_short: |table, _, short, answer| store(numbers(short_table::to_short(table, short)), answer),
+    to_long: |short, _, table, answer| store(numbers(short_table::to_long(short, table)), answer),
     write: |text, scheme, label, answer| {
         store(interface_numbers(c_interface::write(scheme as u32, text, label)), answer);
     },

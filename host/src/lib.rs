@@ -18,4 +18,5 @@ pub mod point;
 #[cfg(feature = "proved")]
 pub mod proved;
 pub mod scheme;
+pub mod short_table;
 pub mod utf16;

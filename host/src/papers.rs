@@ -312,25 +312,73 @@ pub const SLIPS: [Slip; 6] = [
     Slip { scheme: Scheme::Lace, label: "lq--aiagcyq", code: 6 },
 ];
 
+/// The bytes of a header of a kind, and of these entries after it.
+fn with_header(kind: u8, entries: &[Vec<u8>]) -> Vec<u8> {
+    let mut table = vec![kind];
+    table.extend((entries.len() as u16).to_be_bytes());
+    table.extend(entries.concat());
+    table
+}
+
 /// The bytes of a table with these entries: kind, reader number, label of at
 /// most 63 bytes.
 pub fn table_of(entries: &[(u8, u16, Vec<u8>)]) -> Vec<u8> {
-    let mut table = vec![HEADER_KIND];
-    table.extend((entries.len() as u16).to_be_bytes());
-    for (kind, reader, label) in entries {
+    let entry = |(kind, reader, label): &(u8, u16, Vec<u8>)| {
         let mut entry = vec![*kind];
         entry.extend(reader.to_be_bytes());
         entry.push(label.len() as u8);
         entry.extend(label);
         entry.resize(ENTRY_LENGTH, 0);
-        table.extend(entry);
-    }
-    table
+        entry
+    };
+    with_header(HEADER_KIND, &entries.iter().map(entry).collect::<Vec<_>>())
+}
+
+/// The bytes of an entry of a short table, in a kind that holds its label: scheme
+/// number, reader number, label.
+pub fn short_entry_in(kind: u8, (scheme, reader, label): &(u8, u16, Vec<u8>)) -> Vec<u8> {
+    let mut entry = vec![kind];
+    entry.extend(reader.to_be_bytes());
+    entry.extend([*scheme, label.len() as u8]);
+    entry.extend(label);
+    let body = match kind {
+        0x51 => 20,
+        0x52 => 36,
+        _ => 67,
+    };
+    entry.resize(1 + body, 0);
+    entry
+}
+
+/// The bytes of an entry of a short table, in the smallest kind that holds its label.
+pub fn short_entry(entry: &(u8, u16, Vec<u8>)) -> Vec<u8> {
+    let kind = match entry.2.len() {
+        0..=16 => 0x51,
+        17..=32 => 0x52,
+        _ => 0x53,
+    };
+    short_entry_in(kind, entry)
+}
+
+/// The bytes of a short table with these records for entries.
+pub fn short_table_with(entries: &[Vec<u8>]) -> Vec<u8> {
+    with_header(0x49, entries)
+}
+
+/// The bytes of a short table with these entries: scheme number, reader number,
+/// label of at most 63 bytes.
+pub fn short_table_of(entries: &[(u8, u16, Vec<u8>)]) -> Vec<u8> {
+    short_table_with(&entries.iter().map(short_entry).collect::<Vec<_>>())
 }
 
 /// The scope paper's example: entries 7 (AltDUDE `3n`) and 300 (LACE `lq--74apy`).
 pub fn sample_table() -> Vec<u8> {
     table_of(&[(0x41, 7, b"3n".to_vec()), (0x4C, 300, b"lq--74apy".to_vec())])
+}
+
+/// The same entries in a short table.
+pub fn sample_short_table() -> Vec<u8> {
+    short_table_of(&[(1, 7, b"3n".to_vec()), (2, 300, b"lq--74apy".to_vec())])
 }
 
 /// U+10FFFF and U+0061 in turn, so many points.

@@ -104,6 +104,49 @@ extern "C" {
         answer: *mut u64,
         answer_len: usize,
     );
+    fn test_table_header(
+        kind: u8,
+        table: *const u8,
+        table_len: usize,
+        answer: *mut u64,
+        answer_len: usize,
+    );
+    fn test_table_lone_entry(
+        entry: *const u8,
+        entry_len: usize,
+        least: usize,
+        position: usize,
+        text: *mut u32,
+        text_len: usize,
+        answer: *mut u64,
+        answer_len: usize,
+    );
+    fn test_short_read(table: *const u8, table_len: usize, answer: *mut u64, answer_len: usize);
+    fn test_short_entry(
+        table: *const u8,
+        table_len: usize,
+        index: usize,
+        text: *mut u32,
+        text_len: usize,
+        answer: *mut u64,
+        answer_len: usize,
+    );
+    fn test_to_short(
+        table: *const u8,
+        table_len: usize,
+        short: *mut u8,
+        short_len: usize,
+        answer: *mut u64,
+        answer_len: usize,
+    );
+    fn test_to_long(
+        short: *const u8,
+        short_len: usize,
+        table: *mut u8,
+        table_len: usize,
+        answer: *mut u64,
+        answer_len: usize,
+    );
 }
 
 // libfirmware.a, declared in include/distelhut.h
@@ -137,14 +180,21 @@ pub fn read(scheme: u32, label: &[u8], text: &mut [u8]) -> u32 {
 }
 
 /// Calls an exported function on slices and numbers; each slice is passed as a
-/// pointer and a length.
+/// pointer and a length. A number may also come first.
 macro_rules! call {
-    ($function:ident, [$($given:ident),*], [$($number:ident)?], [$($buffer:ident),*]) => {
+    (
+        $function:ident,
+        $($first:ident,)?
+        [$($given:ident),*],
+        [$($number:ident),*],
+        [$($buffer:ident),*]
+    ) => {
         // SAFETY: slices are never null, never overlap, and are as long as they say.
         unsafe {
             $function(
+                $($first,)?
                 $($given.as_ptr(), $given.len(),)*
-                $($number,)?
+                $($number,)*
                 $($buffer.as_mut_ptr(), $buffer.len()),*
             )
         }
@@ -180,6 +230,19 @@ pub const PROVED: Implementation = Implementation {
     table_write: |readers, schemes, lengths, points, table, answer| {
         call!(test_table_write, [readers, schemes, lengths, points], [], [table, answer])
     },
+    table_header: |table, kind, _, answer| {
+        let kind = kind as u8;
+        call!(test_table_header, kind, [table], [], [answer])
+    },
+    table_lone_entry: |entry, [least, position], text, answer| {
+        call!(test_table_lone_entry, [entry], [least, position], [text, answer])
+    },
+    short_read: |table, _, _, answer| call!(test_short_read, [table], [], [answer]),
+    short_entry: |table, index, text, answer| {
+        call!(test_short_entry, [table], [index], [text, answer])
+    },
+    to_short: |table, _, short, answer| call!(test_to_short, [table], [], [short, answer]),
+    to_long: |short, _, table, answer| call!(test_to_long, [short], [], [table, answer]),
     write: |text, scheme, label, answer| {
         store(interface_numbers(write(scheme as u32, text, label)), answer);
     },

@@ -31,6 +31,11 @@ impl Scheme {
         }
     }
 
+    /// The scheme whose own number this is: none for the default's 0.
+    pub fn of_own_number(number: u32) -> Option<Scheme> {
+        Scheme::of_number(number).filter(|scheme| scheme.number() == number)
+    }
+
     /// The scheme of an entry's kind.
     pub fn of_kind(kind: u8) -> Option<Scheme> {
         match kind {

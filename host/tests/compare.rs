@@ -19,7 +19,8 @@ fn the_independent_implementation_agrees_with_itself() {
 #[test]
 fn too_few_cases_are_no_comparison() {
     for (_, compare) in COMPARISONS {
-        let line = compare(5, 1, &[INDEPENDENT; 2]).unwrap_err();
+        // Each function has two codes or more, and is done at times.
+        let line = compare(2, 1, &[INDEPENDENT; 2]).unwrap_err();
         assert!(line.contains("; the codes must be ["), "{line}");
     }
 }
@@ -33,11 +34,17 @@ fn found(function: &str, planted: &[Implementation]) {
     }
 }
 
+/// The comparison of a function finds each of some wrong ones, put in its place.
+fn found_in<F: Copy>(function: &str, put: fn(F) -> Implementation, wrong: &[F]) {
+    let planted: Vec<Implementation> = wrong.iter().map(|&wrong| put(wrong)).collect();
+    found(function, &planted);
+}
+
 /// Makes a call, and answers the five numbers with it.
-fn numbers<G, B>(
-    function: Function<G, B>,
+fn numbers<G, B, N: Copy>(
+    function: Function<G, B, N>,
     given: &[G],
-    number: usize,
+    number: N,
     buffer: &mut [B],
     answer: &mut [u64],
 ) -> [u64; 5] {
@@ -677,6 +684,399 @@ fn errors_of_table_write() {
                     }
                 },
                 ..INDEPENDENT
+            },
+        ],
+    );
+}
+
+#[test]
+fn errors_of_table_header() {
+    found_in::<Function<u8, u8>>(
+        "table_header",
+        |table_header| Implementation { table_header, ..INDEPENDENT },
+        &[
+            // 501 entries are taken
+            |table, kind, none, answer| {
+                let five = numbers(INDEPENDENT.table_header, table, kind, none, answer);
+                if five[0] == 14 && table[0] == kind as u8 && table[1..].starts_with(&[1, 0xF5]) {
+                    store([0, 0, 501, 0, 0], answer);
+                }
+            },
+            // a header that is cut is 13, whatever its kind
+            |table, kind, none, answer| {
+                let table = if table.len() < 3 { &[] } else { table };
+                (INDEPENDENT.table_header)(table, kind, none, answer);
+            },
+            // either form's kind is taken
+            |table, kind, none, answer| {
+                let either = matches!(table, [0x48 | 0x49, ..]);
+                let kind = if either { table[0].into() } else { kind };
+                (INDEPENDENT.table_header)(table, kind, none, answer);
+            },
+            // only the last byte of the count is looked at
+            |table, kind, none, answer| {
+                let mut table = table.to_vec();
+                if let Some(high) = table.get_mut(1) {
+                    *high = 0;
+                }
+                (INDEPENDENT.table_header)(&table, kind, none, answer);
+            },
+        ],
+    );
+}
+
+#[test]
+fn errors_of_table_lone_entry() {
+    found_in::<Function<u8, u32, [usize; 2]>>(
+        "table_lone_entry",
+        |table_lone_entry| Implementation { table_lone_entry, ..INDEPENDENT },
+        &[
+            // the least reader number is looked at in 16 bits
+            |entry, [least, position], text, answer| {
+                let numbers = [least % (1 << 16), position];
+                (INDEPENDENT.table_lone_entry)(entry, numbers, text, answer);
+            },
+            // the reader number must be above the least
+            |entry, [least, position], text, answer| {
+                let numbers = [least.saturating_add(1), position];
+                (INDEPENDENT.table_lone_entry)(entry, numbers, text, answer);
+            },
+            // the entry's own refusal is reported at 0
+            |entry, [least, _], text, answer| {
+                (INDEPENDENT.table_lone_entry)(entry, [least, 0], text, answer);
+            },
+            // another length is reported at the position
+            |entry, [least, position], text, answer| {
+                let function = INDEPENDENT.table_lone_entry;
+                let five = numbers(function, entry, [least, position], text, answer);
+                if [13, 14].contains(&five[0]) {
+                    store([five[0], position as u64, 0, 0, 0], answer);
+                }
+            },
+            // what follows the 67 bytes is not looked at
+            |entry, numbers, text, answer| {
+                let entry = &entry[..entry.len().min(67)];
+                (INDEPENDENT.table_lone_entry)(entry, numbers, text, answer);
+            },
+        ],
+    );
+}
+
+/// The bytes of an entry of a short table, by its kind; none for an unknown one.
+fn entry_length(kind: u8) -> Option<usize> {
+    match kind {
+        0x51 => Some(21),
+        0x52 => Some(37),
+        0x53 => Some(68),
+        _ => None,
+    }
+}
+
+/// How many entries a table announces.
+fn announced(table: &[u8]) -> usize {
+    match table {
+        [_, high, low, ..] => u16::from_be_bytes([*high, *low]).into(),
+        _ => 0,
+    }
+}
+
+/// The whole entries of a short table, as far as their kinds are known and they are
+/// announced, and the bytes after them.
+fn walked(table: &[u8]) -> (Vec<&[u8]>, &[u8]) {
+    let (mut entries, mut rest) = (Vec::new(), table.get(3..).unwrap_or_default());
+    while entries.len() < announced(table) {
+        let length = rest.first().and_then(|&kind| entry_length(kind));
+        let Some((entry, later)) = length.and_then(|length| rest.split_at_checked(length)) else {
+            break;
+        };
+        entries.push(entry);
+        rest = later;
+    }
+    (entries, rest)
+}
+
+/// A short table with each of its whole entries changed.
+fn each_changed(table: &[u8], change: fn(&mut Vec<u8>)) -> Vec<u8> {
+    let (entries, rest) = walked(table);
+    let mut entries: Vec<Vec<u8>> = entries.into_iter().map(<[u8]>::to_vec).collect();
+    entries.iter_mut().for_each(change);
+    [&table[..table.len().min(3)], &entries.concat(), rest].concat()
+}
+
+/// Puts an entry into a smaller kind, if only zeros are cut off.
+fn in_kind(entry: &mut Vec<u8>, kind: u8) {
+    let length = entry_length(kind).unwrap();
+    if entry.len() > length && entry[length..].iter().all(|&byte| byte == 0) {
+        entry[0] = kind;
+        entry.truncate(length);
+    }
+}
+
+#[test]
+fn errors_of_short_read() {
+    found_in::<Function<u8, u8>>(
+        "short_read",
+        |short_read| Implementation { short_read, ..INDEPENDENT },
+        &[
+            // what follows the last entry is not looked at
+            |table, _, none, answer| {
+                let (entries, rest) = walked(table);
+                let after = if entries.len() == announced(table) { rest.len() } else { 0 };
+                (INDEPENDENT.short_read)(&table[..table.len() - after], 0, none, answer);
+            },
+            // every entry must be whole before the first is judged
+            |table, _, none, answer| {
+                let five = numbers(INDEPENDENT.short_read, table, 0, none, answer);
+                let (entries, rest) = walked(table);
+                let known = rest.first().is_none_or(|&kind| entry_length(kind).is_some());
+                if five[0] < 10 && entries.len() < announced(table) && known {
+                    store([13, 0, 0, 0, 0], answer);
+                }
+            },
+            // an entry that is cut is reported at its index
+            |table, _, none, answer| {
+                let five = numbers(INDEPENDENT.short_read, table, 0, none, answer);
+                if five[0] == 13 {
+                    store([13, walked(table).0.len() as u64, 0, 0, 0], answer);
+                }
+            },
+        ],
+    );
+}
+
+#[test]
+fn errors_of_the_entries_of_short_read() {
+    found_in::<Function<u8, u8>>(
+        "short_read",
+        |short_read| Implementation { short_read, ..INDEPENDENT },
+        &[
+            // 0 is the default scheme
+            |table, _, none, answer| {
+                let table = each_changed(table, |entry| entry[3] += u8::from(entry[3] == 0));
+                (INDEPENDENT.short_read)(&table, 0, none, answer);
+            },
+            // a kind may be larger than needed
+            |table, _, none, answer| {
+                let table = each_changed(table, |entry| match entry[4] {
+                    1..=16 => in_kind(entry, 0x51),
+                    17..=32 => in_kind(entry, 0x52),
+                    _ => {}
+                });
+                (INDEPENDENT.short_read)(&table, 0, none, answer);
+            },
+            // a label of 32 bytes may be in the third kind
+            |table, _, none, answer| {
+                let table = each_changed(table, |entry| {
+                    if entry[4] == 32 {
+                        in_kind(entry, 0x52);
+                    }
+                });
+                (INDEPENDENT.short_read)(&table, 0, none, answer);
+            },
+            // the filling is not looked at
+            |table, _, none, answer| {
+                let table = each_changed(table, |entry| {
+                    let end = entry.len().min(5 + usize::from(entry[4]));
+                    entry[end..].fill(0);
+                });
+                (INDEPENDENT.short_read)(&table, 0, none, answer);
+            },
+        ],
+    );
+}
+
+#[test]
+fn errors_of_short_entry() {
+    found_in::<Function<u8, u32>>(
+        "short_entry",
+        |short_entry| Implementation { short_entry, ..INDEPENDENT },
+        &[
+            // the index is looked at in 32 bits
+            |table, index, text, answer| {
+                (INDEPENDENT.short_entry)(table, index % (1 << 32), text, answer);
+            },
+            // an index too high is reported at the index
+            |table, index, text, answer| {
+                let five = numbers(INDEPENDENT.short_entry, table, index, text, answer);
+                let mut read = [0; 5];
+                (INDEPENDENT.short_read)(table, 0, &mut [], &mut read);
+                if five[0] == 14 && read[0] == 0 {
+                    store([14, index as u64, 0, 0, 0], answer);
+                }
+            },
+            // the reader number of the first entry is told for all
+            |table, index, text, answer| {
+                let mut five = numbers(INDEPENDENT.short_entry, table, index, text, answer);
+                if five[0] == 0 {
+                    five[3] = u64::from(u16::from_be_bytes([table[4], table[5]]));
+                    store(five, answer);
+                }
+            },
+            // the table is judged no further than the entry
+            |table, index, text, answer| {
+                let (entries, _) = walked(table);
+                let mut table = table.to_vec();
+                if index < entries.len() {
+                    table.truncate(3 + entries[..=index].concat().len());
+                    table[1..3].copy_from_slice(&(index as u16 + 1).to_be_bytes());
+                }
+                (INDEPENDENT.short_entry)(&table, index, text, answer);
+            },
+        ],
+    );
+}
+
+/// A move for which a buffer that is one byte short is enough.
+fn one_byte_short(function: Function<u8, u8>, given: &[u8], out: &mut [u8], answer: &mut [u64]) {
+    let mut longer = [&*out, &[0]].concat();
+    function(given, 0, &mut longer, answer);
+    out.copy_from_slice(&longer[..out.len()]);
+}
+
+/// A move that asks whether there is any capacity before it judges the table.
+fn capacity_first(function: Function<u8, u8>, given: &[u8], out: &mut [u8], answer: &mut [u64]) {
+    match out.len() {
+        0 => store([1, 0, 0, 0, 0], answer),
+        _ => function(given, 0, out, answer),
+    }
+}
+
+/// A move that stores the second byte of the count before it judges the table.
+fn count_first(function: Function<u8, u8>, given: &[u8], out: &mut [u8], answer: &mut [u64]) {
+    function(given, 0, out, answer);
+    if let (Some(stored), Some(count)) = (out.get_mut(2), given.get(2)) {
+        *stored = *count;
+    }
+}
+
+#[test]
+fn errors_of_the_capacity_of_moves() {
+    found_in::<Function<u8, u8>>(
+        "to_short",
+        |to_short| Implementation { to_short, ..INDEPENDENT },
+        &[
+            |table, _, short, answer| one_byte_short(INDEPENDENT.to_short, table, short, answer),
+            |table, _, short, answer| capacity_first(INDEPENDENT.to_short, table, short, answer),
+            |table, _, short, answer| count_first(INDEPENDENT.to_short, table, short, answer),
+        ],
+    );
+    found_in::<Function<u8, u8>>(
+        "to_long",
+        |to_long| Implementation { to_long, ..INDEPENDENT },
+        &[
+            |short, _, table, answer| one_byte_short(INDEPENDENT.to_long, short, table, answer),
+            |short, _, table, answer| capacity_first(INDEPENDENT.to_long, short, table, answer),
+            |short, _, table, answer| count_first(INDEPENDENT.to_long, short, table, answer),
+        ],
+    );
+}
+
+/// A move whose table is changed before it is stored. The change is also told what the
+/// buffer holds.
+fn changed(
+    function: Function<u8, u8>,
+    given: &[u8],
+    out: &mut [u8],
+    answer: &mut [u64],
+    change: fn(Vec<u8>, &[u8]) -> Vec<u8>,
+) {
+    let mut five = [0; 5];
+    let mut made = vec![0; 34_003];
+    function(given, 0, &mut made, &mut five);
+    if five[0] == 0 {
+        made.truncate(five[2] as usize);
+        let made = change(made, out);
+        five = [1, 0, 0, 0, 0];
+        if let Some(front) = out.get_mut(..made.len()) {
+            front.copy_from_slice(&made);
+            five = [0, 0, made.len() as u64, 0, 0];
+        }
+    }
+    store(five, answer);
+}
+
+/// A table with what a buffer holds in place of the filling of each entry. The entries
+/// have so many bytes, and the label of each stands after so many.
+fn filling_kept(
+    mut table: Vec<u8>,
+    held: &[u8],
+    lengths: &[usize],
+    before_label: usize,
+) -> Vec<u8> {
+    let mut start = 3;
+    for length in lengths {
+        let label = usize::from(table[start + before_label - 1]);
+        let filling = start + before_label + label..start + length;
+        if let Some(held) = held.get(filling.clone()) {
+            table[filling].copy_from_slice(held);
+        }
+        start += length;
+    }
+    table
+}
+
+#[test]
+fn errors_of_to_short() {
+    found_in::<Function<u8, u8>>(
+        "to_short",
+        |to_short| Implementation { to_short, ..INDEPENDENT },
+        &[
+            // labels are made small
+            |table, _, short, answer| {
+                changed(INDEPENDENT.to_short, table, short, answer, |made, _| {
+                    each_changed(&made, |entry| entry[5..].make_ascii_lowercase())
+                });
+            },
+            // a label of 16 bytes gets the second kind
+            |table, _, short, answer| {
+                changed(INDEPENDENT.to_short, table, short, answer, |made, _| {
+                    each_changed(&made, |entry| {
+                        if entry[4] == 16 {
+                            entry[0] = 0x52;
+                            entry.resize(37, 0);
+                        }
+                    })
+                });
+            },
+            // the bytes after a label are left as they were
+            |table, _, short, answer| {
+                changed(INDEPENDENT.to_short, table, short, answer, |made, held| {
+                    let lengths: Vec<_> = walked(&made).0.iter().map(|entry| entry.len()).collect();
+                    filling_kept(made, held, &lengths, 5)
+                });
+            },
+        ],
+    );
+}
+
+#[test]
+fn errors_of_to_long() {
+    found_in::<Function<u8, u8>>(
+        "to_long",
+        |to_long| Implementation { to_long, ..INDEPENDENT },
+        &[
+            // labels are made small
+            |short, _, table, answer| {
+                changed(INDEPENDENT.to_long, short, table, answer, |mut made, _| {
+                    made[3..].chunks_mut(67).for_each(|entry| entry[4..].make_ascii_lowercase());
+                    made
+                });
+            },
+            // the kind is 4C under BRACE too
+            |short, _, table, answer| {
+                changed(INDEPENDENT.to_long, short, table, answer, |mut made, _| {
+                    for kind in made.iter_mut().skip(3).step_by(67).filter(|kind| **kind == 0x42) {
+                        *kind = 0x4C;
+                    }
+                    made
+                });
+            },
+            // the bytes after a label are left as they were
+            |short, _, table, answer| {
+                changed(INDEPENDENT.to_long, short, table, answer, |made, held| {
+                    let entries = made.len() / 67;
+                    filling_kept(made, held, &vec![67; entries], 4)
+                });
             },
         ],
     );

@@ -1,7 +1,9 @@
-//! The name table: reading it, and reading one entry. On each implementation at
-//! hand.
+//! The name table: reading it, reading one entry, a header and an entry by themselves.
+//! On each implementation at hand.
 
 mod shared;
+#[path = "shared/tables.rs"]
+mod tables;
 
 use distelhut_host::functions::{implementations, Implementation};
 use distelhut_host::papers::{sample_table, table_of};
@@ -9,14 +11,12 @@ use shared::{called, numbers, Error};
 
 /// The number of entries, or the error.
 fn verdict(one: &Implementation, table: &[u8]) -> Result<u64, Error> {
-    numbers(|five| (one.table_read)(table, 0, &mut [], five)).map(|five| five[2])
+    tables::verdict(one.table_read, table)
 }
 
 /// The reader number, the scheme number and the points of an entry, or the error.
 fn entry(one: &Implementation, table: &[u8], index: usize) -> Result<(u64, u64, Vec<u32>), Error> {
-    let call = |five: &mut [u64]| (one.table_entry)(table, index, &mut [0; 63], five);
-    let [_, _, _, reader, scheme] = numbers(call)?;
-    Ok((reader, scheme, called(one.table_entry, table, index, 63)?))
+    tables::entry(one.table_entry, table, index)
 }
 
 /// The answer on an entry of a table that was judged before: reader number,
@@ -26,9 +26,7 @@ fn judged_entry(
     table: &[u8],
     index: usize,
 ) -> Result<(u64, u64, Vec<u32>), Error> {
-    let call = |five: &mut [u64]| (one.table_judged_entry)(table, index, &mut [0; 63], five);
-    let [_, _, _, reader, scheme] = numbers(call)?;
-    Ok((reader, scheme, called(one.table_judged_entry, table, index, 63)?))
+    tables::entry(one.table_judged_entry, table, index)
 }
 
 fn changed(changes: &[(usize, u8)]) -> Vec<u8> {
@@ -260,5 +258,74 @@ fn an_entry_of_a_judged_table() {
         assert_eq!(judged_entry(&one, &changed(&[(7, b's')]), 1), Ok((300, 2, vec![0xFC])));
         // A reader number below that of the entry before is not looked at.
         assert_eq!(judged_entry(&one, &changed(&[(71, 0), (72, 0)]), 1), Ok((0, 2, vec![0xFC])));
+    }
+}
+
+#[test]
+fn a_header_by_itself() {
+    let headers: [(u8, &[u8], Result<u64, Error>); 18] = [
+        (0x48, &[], Err((13, 0))),
+        (0x48, &[0x48], Err((13, 0))),
+        (0x48, &[0x49], Err((14, 0))),
+        (0x49, &[0x48], Err((14, 0))),
+        (0x49, &[0x49, 0x00], Err((13, 0))),
+        (0x49, &[0x48, 0x00], Err((14, 0))),
+        (0x48, &[0x48, 0x00, 0x00], Err((14, 0))),
+        (0x48, &[0x48, 0x00, 0x01], Ok(1)),
+        (0x49, &[0x49, 0x00, 0x02], Ok(2)),
+        (0x48, &[0x49, 0x00, 0x02], Err((14, 0))),
+        (0x49, &[0x49, 0x01, 0x00], Ok(256)),
+        (0x49, &[0x49, 0x01, 0xF4], Ok(500)),
+        (0x49, &[0x49, 0x01, 0xF5], Err((14, 0))),
+        (0x49, &[0x49, 0xFF, 0xFF], Err((14, 0))),
+        (0x00, &[0x00, 0x00, 0x07], Ok(7)),
+        (0xFF, &[0xFF, 0x00, 0x07], Ok(7)),
+        // What follows is not looked at.
+        (0x48, &[0x48, 0x00, 0x02, 0xFF], Ok(2)),
+        (0x48, &[0x48, 0x01, 0xF5, 0x00], Err((14, 0))),
+    ];
+    for one in implementations() {
+        for (kind, table, answer) in headers {
+            let call = |five: &mut [u64]| (one.table_header)(table, kind.into(), &mut [], five);
+            assert_eq!(numbers(call).map(|five| five[2]), answer, "{kind:X} {table:X?}");
+        }
+    }
+}
+
+#[test]
+fn an_entry_by_itself() {
+    let whole = &sample_table()[70..];
+    let changed = |position: usize, byte: u8| {
+        let mut entry = whole.to_vec();
+        entry[position] = byte;
+        entry
+    };
+    for one in implementations() {
+        let read = |bytes: &[u8], least, position| {
+            tables::entry(one.table_lone_entry, bytes, [least, position])
+        };
+        for least in [0, 1, 299, 300] {
+            assert_eq!(read(whole, least, 5), Ok((300, 2, vec![0xFC])));
+        }
+        for least in [301, 65_535, 65_536 + 300, (1 << 32) + 300, usize::MAX] {
+            assert_eq!(read(whole, least, 5), Err((14, 5)));
+        }
+        for length in 0..67 {
+            assert_eq!(read(&whole[..length], 0, 5), Err((13, 0)));
+        }
+        assert_eq!(read(&[whole, &[0]].concat(), 0, 5), Err((14, 0)));
+        assert_eq!(read(&[whole, whole].concat(), 0, 5), Err((14, 0)));
+        // kind, length 0 and 64, filling; then the label's own
+        for (position, byte) in [(0, 0x48), (0, 0x51), (3, 0), (3, 64), (3, 8), (66, 1)] {
+            assert_eq!(read(&changed(position, byte), 0, 7), Err((14, 7)));
+        }
+        assert_eq!(read(&changed(12, b'z'), 0, usize::MAX), Err((9, u64::MAX)));
+        assert_eq!(read(&changed(0, 0x41), 300, 1), Err((7, 1)));
+        assert_eq!(read(&changed(4, b'x'), 300, 0), Err((8, 0)));
+        assert_eq!(read(&changed(4, b'x'), 301, 1), Err((14, 1)));
+        // Capacity before length.
+        assert_eq!(called(one.table_lone_entry, whole, [0, 1], 62), Err((1, 0)));
+        assert_eq!(called(one.table_lone_entry, &[], [0, 1], 62), Err((1, 0)));
+        assert_eq!(called(one.table_lone_entry, whole, [0, 1], 64), Ok(vec![0xFC]));
     }
 }

@@ -2,14 +2,17 @@
 //! implementation at hand; with the feature `proved` the proved program lists it.
 
 mod shared;
+#[path = "shared/tables.rs"]
+mod tables;
 
 use distelhut_host::functions::{implementations, Implementation};
 use distelhut_host::generate::lists::{lawful_entries, Entry, List};
-use distelhut_host::generate::{tables, Source};
+use distelhut_host::generate::{tables::whole_table, Source};
 use distelhut_host::papers::{ever_changing, in_turn, sample_table, table_of};
 #[cfg(feature = "proved")]
 use distelhut_host::scheme::Scheme;
-use shared::{called, filled, numbers, Error};
+use shared::{filled, Error};
+use tables::{entry, verdict};
 
 /// A text of so many small letters a.
 fn a(times: usize) -> Vec<u32> {
@@ -36,14 +39,12 @@ fn written(one: &Implementation, entries: &[Entry]) -> Result<Vec<u8>, Error> {
 
 /// The entries of a table, read one by one.
 fn entries_of(one: &Implementation, table: &[u8]) -> Result<Vec<Entry>, Error> {
-    let count = numbers(|five| (one.table_read)(table, 0, &mut [], five))?[2] as usize;
-    let entry = |index| {
-        let call = |five: &mut [u64]| (one.table_entry)(table, index, &mut [0; 63], five);
-        let [_, _, _, reader, scheme] = numbers(call)?;
-        let text = called(one.table_entry, table, index, 63)?;
+    let count = verdict(one.table_read, table)? as usize;
+    let listed = |index| {
+        let (reader, scheme, text) = entry(one.table_entry, table, index)?;
         Ok((reader as u16, scheme as u32, text))
     };
-    (0..count).map(entry).collect()
+    (0..count).map(listed).collect()
 }
 
 #[test]
@@ -253,7 +254,7 @@ fn what_is_read_is_written_again() {
     for one in implementations() {
         let mut source = Source::new(22);
         for turn in 0..3000 {
-            let table = tables::whole_table(&mut source, 1 + turn % 7, None);
+            let table = whole_table(&mut source, 1 + turn % 7, None);
             let entries = entries_of(&one, &table).unwrap();
             assert_eq!(written(&one, &entries), Ok(table));
         }
@@ -307,9 +308,12 @@ fn written_tables_are_listed() {
     let sample = [(7, 1, vec![0xFC]), (300, 2, vec![0xFC]), (301, 3, vec![0xFC])];
     for one in implementations() {
         let table = written(&one, &sample).unwrap();
-        assert_eq!(listed(&table), "00007 A U+00FC
+        assert_eq!(
+            listed(&table),
+            "00007 A U+00FC
 00300 L U+00FC
 00301 B U+00FC
-");
+"
+        );
     }
 }

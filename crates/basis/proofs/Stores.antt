@@ -1,9 +1,9 @@
 -- Laws on stores: a buffer that is filled piece by piece from the front, by what is left to store.
-use Prim.Native.Nat.{ℕ, suc, _+_, _≤_, _<_}
+use Prim.Native.Nat.{ℕ, suc, _+_, _-_, _≤_, _<_}
 use mathlib.Core.Path.{_≡_, refl, sym, ap, _∙_}
-use mathlib.Core.List.{List, [], _∷_, _++_, append-nil}
-use lib.ListN.{length, getD, drop, set, length-append, drop-of-length-le}
-use lib.Seq.{set-comm, sets, length-sets, drop-cons}
+use mathlib.Core.List.{List, [], _∷_, _++_, append-nil, append-assoc}
+use lib.ListN.{length, getD, take, drop, set, length-append, drop-of-length-le}
+use lib.Seq.{set-comm, sets, sets-eq, length-sets, drop-cons, drop-drop}
 use native.Mathlib.Nat.{add-zero, add-suc, suc-add}
 use native.Mathlib.Numerals.{add-one}
 use native.Mathlib.Omega.{arith}
@@ -60,6 +60,16 @@ storing-none old values now at left s e h = (
   omega (arith, s .count, ap length e),
   ap (sets now at) (sym e) ∙ s .stores ∙ sets-front values old h,
 )
+
+-- a piece that was put into a part of the buffer
+pub stored-part : (buffer piece : List ℕ) (at next : ℕ) → at + length piece ≡ next → next ≤ length buffer
+    → Stored buffer at piece (take at buffer ++ (piece ++ drop (next - at) (drop at buffer))) next
+stored-part buffer piece at next is fits =
+    let n : next - at ≡ length piece = omega arith in
+    let m : at + length piece ≤ length buffer = omega arith in
+    let stores : take at buffer ++ (piece ++ drop (next - at) (drop at buffer)) ≡ sets buffer at piece
+    = rw (n, drop-drop (length piece) at buffer) (sym (sets-eq piece buffer at m ∙ append-assoc (take at buffer) piece (drop (at + length piece) buffer))) in
+    record { stores = stores; count = omega arith; long = ap length stores ∙ length-sets buffer at piece }
 
 -- a row stored one by one: the start, a turn, and the end
 module _ (row old : List ℕ) (from : ℕ) where

@@ -50,20 +50,27 @@ use Rattle.scheme.specs.Naming as naming
 use Rattle.scheme.proofs.Naming.{by-scheme}
 use Rattle.labels.specs.Tests.{textTests, labelTests}
 use Rattle.scheme.specs.Coding as scheme
-use Rattle.nametable_format.specs.Format.{headerLength, entryLength, labelCapacity, countOf, tableLength, entryAt, kindOf, readerOf, lengthOf, labelIn, schemeIn}
-use Rattle.nametable.specs.Answer.{headerTests, lengthTests, formTests, entryJudged, entriesJudged, readOutcome, entryText, findOutcome, entryRead, judgedEntryOutcome}
+use Rattle.nametable_format.specs.Format.{headerKind, headerLength, entryLength, labelCapacity, countOf, tableLength, entryAt, kindOf, readerOf, lengthOf, labelIn, schemeIn}
+use Rattle.nametable.specs.Answer.{headerTests, lengthTests, headerOutcome, formTests, entryJudged, entriesJudged, readOutcome, textIn, entryText, foundOutcome, findOutcome, entryRead, loneEntryOutcome, judgedEntryOutcome}
 use Rattle.nametable_write.specs.Writing as writing
-use Rattle.nametable.proofs.TableLaws.{cut-table, find-refused, judged-as-found}
-use Rattle.nametable_facts.proofs.Settled.{read-settled, find-settled, judged-entry-settled, write-settled}
+use Rattle.nametable.proofs.TableLaws.{other-kind, cut-table, found-refused, find-refused, judged-as-found}
+use Rattle.nametable_facts.proofs.Settled.{header-alone-settled, read-settled, find-settled, lone-entry-settled, judged-entry-settled, write-settled}
 use Rattle.nametable_facts.proofs.Truncation.{prefix-truncated}
-use Rattle.nametable_facts.proofs.Whole.{label-long, entry-counts, judged-entry-counts}
+use Rattle.nametable_facts.proofs.Whole.{label-long, lone-entry-counts, entry-counts, judged-entry-counts}
 use Rattle.nametable_facts.proofs.ReadBack.{written-counts}
+use Rattle.nametable_short.specs.Format.{shortHeaderKind, roomOf, fewestOf, firstEntry, afterFirst, longOf}
+use Rattle.nametable_short.specs.Answer.{wholeTests, shortEntryJudged, shortEntriesJudged, shortReadOutcome, shortEntryText, shortFindOutcome, moveOutcome, toShortOutcome, toLongOutcome}
+use Rattle.nametable_short.specs.Answer as short
+use Rattle.nametable_short.proofs.EntryLaws.{room-small, long-size}
+use Rattle.nametable_short.proofs.MoveLaws.{move-refused}
+use Rattle.nametable_short_facts.proofs.Settled.{fewest-some, short-read-settled, short-find-settled, to-short-settled, to-long-settled}
+use Rattle.nametable_short_facts.proofs.Counts.{short-entry-counts}
 use Rattle.firmware.specs.Answer.{answerOf, writeBy, writeOutcome, writtenLabel, readBy, readText}
 use Rattle.firmware.specs.Answer as firmware
 use Rattle.firmware.proofs.Counts.{write-few, read-few}
 use Rattle.report.specs.Lines.{listLine, pointsLine, refusedAtLine, refusedLine}
 use Rattle.report.specs.Answer.{lineOutcome}
-use Rattle.claims.specs.Demand1.{isOneOf, Listed, Answers, Tells, encodeCodes, decodeCodes, tableCodes, tableWriteCodes, writeCodes, readCodes, Cut, Demand1}
+use Rattle.claims.specs.Demand1.{isOneOf, Listed, Answers, Tells, encodeCodes, decodeCodes, tableCodes, tableWriteCodes, writeCodes, readCodes, Cut, OtherForm, Demand1}
 use Rattle.claims.proofs.Interface.{written-some, read-some}
 
 -- a chain of tests: each that holds has a listed number
@@ -314,54 +321,118 @@ unfolding andThen
 then-listed place (done count) next listed later = later
 then-listed place (refused number position) next listed later = listed-refused number (place position) (listed .oneOf number position refl)
 
-entry-listed : (least : ℕ) (e : List ℕ) → length e ≡ entryLength → Listed tableCodes (entryJudged labelCapacity least e)
+-- one entry, whose label is to have some bytes, and no more than a long entry has room for
+entry-listed : (fewest room least : ℕ) (e : List ℕ) → 1 ≤ fewest → room ≤ labelCapacity → length e ≡ entryLength → Listed tableCodes (entryJudged fewest room least e)
 unfolding entryJudged formTests tableCodes isOneOf
-entry-listed least e long =
+entry-listed fewest room least e some small long =
     listed-if _ _ _ refl (λ _. listed-if _ _ _ refl (λ _. listed-if _ _ _ refl (λ sized. listed-if _ _ _ refl (λ _.
-    let low = within-low 1 63 (lengthOf e) (not-false _ sized) in
-    let high = within-high 1 63 (lengthOf e) (not-false _ sized) in
-    let size = label-long e long high in
+    let low = within-low fewest room (lengthOf e) (not-false _ sized) in
+    let high = within-high fewest room (lengthOf e) (not-false _ sized) in
+    let size = label-long e long (omega arith) in
     then-listed _ _ _ (own-listed (schemeIn e) (labelIn e) (omega arith) (omega arith)) (listed-done _)))))
 
 entries-listed : (index least left : ℕ) (bytes : List ℕ) (total : ℕ) → length bytes ≡ entryLength * left → Listed tableCodes (entriesJudged index least left bytes total)
 unfolding entriesJudged
 entries-listed index least zero bytes total long = listed-done total
 entries-listed index least (suc left) bytes total long =
-    then-listed _ _ _ (entry-listed least (take 67 bytes) (length-take-le 67 bytes (omega arith)))
+    then-listed _ _ _ (entry-listed 1 63 least (take 67 bytes) (omega arith) (omega arith) (length-take-le 67 bytes (omega arith)))
     (entries-listed (suc index) (suc (readerOf bytes)) left (drop 67 bytes) total (omega (arith, length-drop 67 bytes)))
 
+-- a header and a length, before what follows
+module _ {codes : List ℕ} (cut : isOneOf codes 13 ≡ true) (malformed : isOneOf codes 14 ≡ true) {next : Outcome} where
+  header-listed : (kind : ℕ) (t : List ℕ) → Listed codes next → Listed codes (headerTests kind t next)
+  unfolding headerTests
+  header-listed kind t later = listed-if _ _ _ cut (λ _. listed-if _ _ _ malformed (λ _. listed-if _ _ _ cut (λ _. listed-if _ _ _ malformed (λ _. later))))
+
+  length-listed : (bytes needed : ℕ) → (bytes ≡ needed → Listed codes next) → Listed codes (lengthTests bytes needed next)
+  unfolding lengthTests
+  length-listed bytes needed later =
+      listed-if _ _ _ cut (λ uncut. listed-if _ _ _ malformed (λ unlong. later (omega (arith, ltb-false bytes needed uncut, ltb-false needed bytes unlong))))
+
+table-header : (kind : ℕ) (table : List ℕ) → Listed (13 ∷ 14 ∷ []) (headerOutcome kind table)
+unfolding headerOutcome isOneOf
+table-header kind t = header-listed refl refl kind t (listed-done _)
+
 table-read : (table : List ℕ) → Listed tableCodes (readOutcome table)
-unfolding readOutcome headerTests lengthTests tableCodes isOneOf
+unfolding readOutcome tableCodes isOneOf
 table-read t =
-    listed-if _ _ _ refl (λ _. listed-if _ _ _ refl (λ _. listed-if _ _ _ refl (λ _. listed-if _ _ _ refl (λ _.
-    listed-if _ _ _ refl (λ uncut. listed-if _ _ _ refl (λ unlong.
-    let least = ltb-false (length t) (tableLength (countOf t)) uncut in
-    let most = ltb-false (tableLength (countOf t)) (length t) unlong in
-    entries-listed 0 0 (countOf t) (drop headerLength t) (countOf t) (omega (arith, length-drop 3 t))))))))
+    header-listed refl refl headerKind t (length-listed refl refl (length t) (tableLength (countOf t)) (λ long.
+    entries-listed 0 0 (countOf t) (drop headerLength t) (countOf t) (omega (arith, length-drop 3 t))))
 
 -- one entry
 with-one : (outcome : Outcome) → Listed tableCodes outcome → Listed (1 ∷ tableCodes) outcome
 unfolding isOneOf
 with-one outcome listed = record { oneOf = λ number position e. rw (listed .oneOf number position e) (cases (eqb 1 number) (λ c. rw c) (λ c. rw c)) }
 
+found-listed : (verdict : Outcome) (count index capacity points : ℕ) → Listed tableCodes verdict → Listed (1 ∷ tableCodes) (foundOutcome verdict count index capacity points)
+unfolding foundOutcome tableCodes isOneOf
+found-listed verdict count index capacity points listed =
+    listed-if _ _ _ refl (λ _. then-listed _ _ _ (with-one verdict listed) (listed-if _ _ _ refl (λ _. listed-done points)))
+
+read-listed : (least position : ℕ) (e : List ℕ) → length e ≡ entryLength → Listed (1 ∷ tableCodes) (entryRead least position e)
+unfolding entryRead
+read-listed least position e long = then-listed _ _ _ (with-one _ (entry-listed 1 63 least e (omega arith) (omega arith) long)) (listed-done _)
+
 table-entry : (table : List ℕ) (index : ℕ) (text : List ℕ) → Answers (1 ∷ tableCodes) (findOutcome table index (length text)) (entryText table index) text
-unfolding findOutcome tableCodes isOneOf
+unfolding findOutcome
 table-entry t index text =
+    answers _ (record { listed = found-listed (readOutcome t) (countOf t) index (length text) (length (entryText t index)) (table-read t); counts = entry-counts t index (length text) })
+
+table-lone-entry : (entry : List ℕ) (least position : ℕ) (text : List ℕ)
+    → Answers (1 ∷ tableCodes) (loneEntryOutcome least position (length text) entry) (textIn entry) text
+unfolding loneEntryOutcome tableCodes isOneOf
+table-lone-entry e least position text =
     answers _ (record {
-      listed = listed-if _ _ _ refl (λ _. then-listed _ _ _ (with-one _ (table-read t)) (listed-if _ _ _ refl (λ _. listed-done _)));
-      counts = entry-counts t index (length text);
+      listed = listed-if _ _ _ refl (λ _. length-listed refl refl (length e) entryLength (read-listed least position e));
+      counts = λ n. lone-entry-counts least position (length text) e;
     })
 
 table-judged-entry : (table : List ℕ) (index : ℕ) (text : List ℕ) → Answers (1 ∷ tableCodes) (judgedEntryOutcome table index (length text)) (entryText table index) text
-unfolding judgedEntryOutcome entryRead entryAt tableCodes isOneOf
+unfolding judgedEntryOutcome entryAt tableCodes isOneOf
 table-judged-entry t index text =
     answers _ (record {
       listed = listed-if _ _ _ refl (λ _. listed-if _ _ _ refl (λ _. listed-if _ _ _ refl (λ _. listed-if _ _ _ refl (λ uncut.
           let least = ltb-false (length t) (tableLength (suc index)) uncut in
-          let long = length-take-le 67 (drop (tableLength index) t) (omega (arith, length-drop (tableLength index) t)) in
-          then-listed _ _ _ (with-one _ (entry-listed 0 (entryAt t index) long)) (listed-done _)))));
+          read-listed 0 index (entryAt t index) (length-take-le 67 (drop (tableLength index) t) (omega (arith, length-drop (tableLength index) t)))))));
       counts = judged-entry-counts t index (length text);
     })
+
+-- a short table, whose entries are judged as the long ones that they stand for
+short-entries-listed : (index least left : ℕ) (bytes : List ℕ) (total : ℕ) → Listed tableCodes (shortEntriesJudged index least left bytes total)
+unfolding shortEntriesJudged wholeTests shortEntryJudged tableCodes isOneOf
+short-entries-listed index least zero bytes total = listed-if _ _ _ refl (λ _. listed-done total)
+short-entries-listed index least (suc left) bytes total =
+    let kind = kindOf (firstEntry bytes) in
+    listed-if _ _ _ refl (λ _. listed-if _ _ _ refl (λ _. listed-if _ _ _ refl (λ _.
+    then-listed _ _ _ (entry-listed (fewestOf kind) (roomOf kind) least (longOf (firstEntry bytes)) (fewest-some kind) (room-small kind) (long-size (firstEntry bytes)))
+    (short-entries-listed (suc index) (suc (readerOf bytes)) left (afterFirst bytes) total))))
+
+short-read : (table : List ℕ) → Listed tableCodes (shortReadOutcome table)
+unfolding shortReadOutcome tableCodes isOneOf
+short-read t = header-listed refl refl shortHeaderKind t (short-entries-listed 0 0 (countOf t) (drop headerLength t) (countOf t))
+
+short-entry : (table : List ℕ) (index : ℕ) (text : List ℕ)
+    → Answers (1 ∷ tableCodes) (shortFindOutcome table index (length text)) (shortEntryText table index) text
+unfolding shortFindOutcome
+short-entry t index text =
+    answers _ (record {
+      listed = found-listed (shortReadOutcome t) (countOf t) index (length text) (length (shortEntryText t index)) (short-read t);
+      counts = λ n. short-entry-counts t index (length text);
+    })
+
+-- a table with this verdict that is moved
+moved-good : (verdict : Outcome) (values : List ℕ) (room : ℕ) → Listed tableCodes verdict → Good (1 ∷ tableCodes) (moveOutcome verdict (length values) room) values room
+unfolding moveOutcome andThen isOneOf
+moved-good (done n) values room listed = good-if _ _ _ (λ _. refl) (λ fits. good-done _ refl (ltb-false room (length values) fits))
+moved-good (refused number position) values room listed = good-refused number position (with-one _ listed .oneOf number position refl)
+
+to-short : (table moved : List ℕ) → Answers (1 ∷ tableCodes) (toShortOutcome table (length moved)) (short.toShort table) moved
+unfolding toShortOutcome
+to-short t moved = answers _ (moved-good (readOutcome t) (short.toShort t) (length moved) (table-read t))
+
+to-long : (table moved : List ℕ) → Answers (1 ∷ tableCodes) (toLongOutcome table (length moved)) (short.toLong table) moved
+unfolding toLongOutcome
+to-long t moved = answers _ (moved-good (shortReadOutcome t) (short.toLong t) (length moved) (short-read t))
 
 -- a list that is written
 text-listed : (s : Scheme) (t : List ℕ) → Listed tableWriteCodes (scheme.encodeOutcome s 63 t)
@@ -443,6 +514,27 @@ firmware-read number label text =
 cut-read : (t : List ℕ) → Cut t → readOutcome t ≡ refused 13 0
 cut-read t c = cut-table t (c .kind) (c .header) refl (c .some) (c .few) (c .short)
 
+-- a table of the other form
+module _ (rest : List ℕ) where
+  other-read : readOutcome (0x49 ∷ rest) ≡ refused 14 0
+  unfolding readOutcome
+  other-read = other-kind headerKind (0x49 ∷ rest) _ (λ e. omega arith) (λ e. omega arith)
+
+  other-short-read : shortReadOutcome (0x48 ∷ rest) ≡ refused 14 0
+  unfolding shortReadOutcome
+  other-short-read = other-kind shortHeaderKind (0x48 ∷ rest) _ (λ e. omega arith) (λ e. omega arith)
+
+  other-form : OtherForm rest
+  unfolding shortFindOutcome toShortOutcome toLongOutcome
+  other-form = record {
+    read = other-read;
+    entry = λ index capacity room. find-refused (0x49 ∷ rest) index capacity room other-read;
+    toShort = λ capacity. move-refused _ _ _ other-read;
+    shortRead = other-short-read;
+    shortEntry = λ index capacity room. found-refused _ _ _ _ _ room other-short-read;
+    toLong = λ capacity. move-refused _ _ _ other-short-read;
+  }
+
 -- what the one number says
 tells : (most : ℕ) (outcome : Outcome) → most < 1000 → ((n : ℕ) → outcome ≡ done n → 1 ≤ n) → basis.countOf outcome ≤ most → Tells most outcome
 unfolding answerOf basis.countOf
@@ -483,12 +575,16 @@ demand1 = record {
   bracePointsDecode = scheme-decode Brace;
   schemeEncode = scheme-encode;
   schemeDecode = scheme-decode;
+  tableHeader = table-header;
   tableRead = table-read;
   tableEntry = table-entry;
+  tableLoneEntry = table-lone-entry;
   tableJudgedEntry = table-judged-entry;
   tableWrite = table-write;
+  tableHeaderOrder = header-alone-settled;
   tableReadOrder = read-settled;
   tableEntryOrder = find-settled;
+  tableLoneEntryOrder = lone-entry-settled;
   tableJudgedEntryOrder = judged-entry-settled;
   tableWriteOrder = write-settled;
   tableJudgedEntryAgrees = λ t n index capacity read. judged-as-found t n read index capacity;
@@ -500,6 +596,15 @@ demand1 = record {
     λ d. by-scheme (λ s. kindOf e ≡ naming.kindOf s → ⊥) (d .0) (d .1) (d .2),
   );
   unknownSchemes = λ number. (λ u. (u Altdude, u Lace, u Brace), λ d. by-scheme (λ s. number ≡ naming.numberOf s → ⊥) (d .0) (d .1) (d .2));
+  shortRead = short-read;
+  shortEntry = short-entry;
+  toShort = to-short;
+  toLong = to-long;
+  shortReadOrder = short-read-settled;
+  shortEntryOrder = short-find-settled;
+  toShortOrder = to-short-settled;
+  toLongOrder = to-long-settled;
+  otherForm = other-form;
   write = firmware-write;
   writeTells = λ number capacity text. tells _ _ (omega arith) (written-some number capacity text) (omega (arith, write-few number capacity text));
   read = firmware-read;

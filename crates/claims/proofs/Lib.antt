@@ -4,6 +4,7 @@ pub mod Interface
 pub mod Demand1
 pub mod Demands
 pub mod Written
+pub mod ShortForm
 pub mod KnownLabels
 pub mod Brace
 pub mod Shortest

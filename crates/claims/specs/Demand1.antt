@@ -1,6 +1,6 @@
 -- Demand 1: what every public function answers and leaves, whatever it is given, and that a table that is cut is refused as cut. The outcomes and
 -- the values are the definitions that the contracts cite. The order of the refusals is that of their tests; by causes it is said of the
--- conversions, of Base32 and of the table here, and of the schemes and the C interface in demand 2. That a call ends and stays inside what
+-- conversions, of Base32 and of the tables here, and of the schemes and the C interface in demand 2. That a call ends and stays inside what
 -- it was passed is what the checker proves of each function.
 use Prim.Native.Nat.{ℕ, _+_, _*_, _≤_, _<_}
 use mathlib.Core.Path.{_≡_}
@@ -37,9 +37,12 @@ use Rattle.scheme.specs.declared.Scheme.{Scheme}
 use Rattle.scheme.specs.declared.Scheme.the-variants.{Altdude, Lace, Brace}
 use Rattle.scheme.specs.Coding as scheme
 use Rattle.nametable_format.specs.Format as nametable
-use Rattle.nametable.specs.Answer.{readOutcome, findOutcome, judgedEntryOutcome, entryText}
+use Rattle.nametable.specs.Answer.{headerOutcome, readOutcome, findOutcome, loneEntryOutcome, judgedEntryOutcome, textIn, entryText}
 use Rattle.nametable_write.specs.Writing as writing
-use Rattle.nametable_facts.specs.Causes.{UnknownKind, UnknownScheme, tableCauses, findCauses, judgedEntryCauses, writeCauses}
+use Rattle.nametable_facts.specs.Causes.{UnknownKind, UnknownScheme, headerCauses, tableCauses, findCauses, loneEntryCauses, judgedEntryCauses, writeCauses}
+use Rattle.nametable_short.specs.Answer.{shortReadOutcome, shortFindOutcome, shortEntryText, toShortOutcome, toLongOutcome}
+use Rattle.nametable_short.specs.Answer as short
+use Rattle.nametable_short_facts.specs.Causes.{shortTableCauses, shortFindCauses, toShortCauses, toLongCauses}
 use Rattle.firmware.specs.Answer.{answerOf, writeOutcome, writtenLabel, readText}
 use Rattle.firmware.specs.Answer as firmware
 use Rattle.firmware.specs.Causes.{UnknownNumber}
@@ -108,6 +111,16 @@ pub record Cut (table : List ℕ) : Type 0 where
   pub few : nametable.countOf table ≤ 500
   pub short : length table < 3 + 67 * nametable.countOf table
 
+-- what reading, one entry by index and moving answer in each form to a table that begins as the
+-- other form does: 14 at 0, for one entry by index given the room
+pub record OtherForm (rest : List ℕ) : Type 0 where
+  pub read : readOutcome (0x49 ∷ rest) ≡ refused 14 0
+  pub entry : (index capacity : ℕ) → 63 ≤ capacity → findOutcome (0x49 ∷ rest) index capacity ≡ refused 14 0
+  pub toShort : (capacity : ℕ) → toShortOutcome (0x49 ∷ rest) capacity ≡ refused 14 0
+  pub shortRead : shortReadOutcome (0x48 ∷ rest) ≡ refused 14 0
+  pub shortEntry : (index capacity : ℕ) → 63 ≤ capacity → shortFindOutcome (0x48 ∷ rest) index capacity ≡ refused 14 0
+  pub toLong : (capacity : ℕ) → toLongOutcome (0x48 ∷ rest) capacity ≡ refused 14 0
+
 -- every public function that can refuse, by name
 pub record Demand1 : Type 0 where
   -- utf16
@@ -169,18 +182,25 @@ pub record Demand1 : Type 0 where
       → Answers (encodeCodes s) (scheme.encodeOutcome s (length label) text) (scheme.labelOf s text) label
   pub schemeDecode : (s : Scheme) (label text : List ℕ)
       → Answers (decodeCodes s) (scheme.decodeOutcome s (length text) label) (scheme.textOf s label) text
-  -- nametable: `read` is passed no buffer to write
+  -- nametable: `header` and `read` are passed no buffer to write
+  pub tableHeader : (kind : ℕ) (table : List ℕ) → Listed (13 ∷ 14 ∷ []) (headerOutcome kind table)
   pub tableRead : (table : List ℕ) → Listed tableCodes (readOutcome table)
   pub tableEntry : (table : List ℕ) (index : ℕ) (text : List ℕ)
       → Answers (1 ∷ tableCodes) (findOutcome table index (length text)) (entryText table index) text
+  pub tableLoneEntry : (entry : List ℕ) (least position : ℕ) (text : List ℕ)
+      → Answers (1 ∷ tableCodes) (loneEntryOutcome least position (length text) entry) (textIn entry) text
   pub tableJudgedEntry : (table : List ℕ) (index : ℕ) (text : List ℕ)
       → Answers (1 ∷ tableCodes) (judgedEntryOutcome table index (length text)) (entryText table index) text
   pub tableWrite : (readers schemes lengths points table : List ℕ)
       → Answers tableWriteCodes (writing.writeOutcome (length table) readers schemes lengths points) (writing.tableOf (writing.entriesOf readers schemes lengths points)) table
   -- its order: the header's, then entry by entry, and for one entry 1 before and the index after
+  pub tableHeaderOrder : (kind : ℕ) (table : List ℕ) → Settles (headerCauses kind table []) (nametable.countOf table) (headerOutcome kind table)
   pub tableReadOrder : (table : List ℕ) → Settles (tableCauses table) (nametable.countOf table) (readOutcome table)
   pub tableEntryOrder : (table : List ℕ) (index capacity : ℕ)
       → Settles (findCauses table index capacity) (length (entryText table index)) (findOutcome table index capacity)
+  -- of an entry without its table: 1, the length, then the entry's own
+  pub tableLoneEntryOrder : (least position capacity : ℕ) (entry : List ℕ)
+      → Settles (loneEntryCauses least position capacity entry) (length (textIn entry)) (loneEntryOutcome least position capacity entry)
   -- of a table that was judged: 1, the header, the index, the length, then the entry's own
   pub tableJudgedEntryOrder : (table : List ℕ) (index capacity : ℕ)
       → Settles (judgedEntryCauses table index capacity) (length (entryText table index)) (judgedEntryOutcome table index capacity)
@@ -195,6 +215,21 @@ pub record Demand1 : Type 0 where
       → UnknownKind entry ↔ ((nametable.kindOf entry ≡ 0x41 → ⊥) × (nametable.kindOf entry ≡ 0x4c → ⊥) × (nametable.kindOf entry ≡ 0x42 → ⊥))
   -- the number of an entry's scheme is no scheme's exactly if it is neither 1, 2 nor 3
   pub unknownSchemes : (number : ℕ) → UnknownScheme number ↔ ((number ≡ 1 → ⊥) × (number ≡ 2 → ⊥) × (number ≡ 3 → ⊥))
+  -- nametable_short: `read` is passed no buffer to write
+  pub shortRead : (table : List ℕ) → Listed tableCodes (shortReadOutcome table)
+  pub shortEntry : (table : List ℕ) (index : ℕ) (text : List ℕ)
+      → Answers (1 ∷ tableCodes) (shortFindOutcome table index (length text)) (shortEntryText table index) text
+  pub toShort : (table moved : List ℕ) → Answers (1 ∷ tableCodes) (toShortOutcome table (length moved)) (short.toShort table) moved
+  pub toLong : (table moved : List ℕ) → Answers (1 ∷ tableCodes) (toLongOutcome table (length moved)) (short.toLong table) moved
+  -- its order: the header's, then entry by entry, and for one entry 1 before and the index after; of a
+  -- move 1 after all others
+  pub shortReadOrder : (table : List ℕ) → Settles (shortTableCauses table) (nametable.countOf table) (shortReadOutcome table)
+  pub shortEntryOrder : (table : List ℕ) (index capacity : ℕ)
+      → Settles (shortFindCauses table index capacity) (length (shortEntryText table index)) (shortFindOutcome table index capacity)
+  pub toShortOrder : (table : List ℕ) (capacity : ℕ) → Settles (toShortCauses table capacity) (length (short.toShort table)) (toShortOutcome table capacity)
+  pub toLongOrder : (table : List ℕ) (capacity : ℕ) → Settles (toLongCauses table capacity) (length (short.toLong table)) (toLongOutcome table capacity)
+  -- to reading, one entry by index and moving in one form a table of the other is malformed, whatever follows its first byte
+  pub otherForm : (rest : List ℕ) → OtherForm rest
   -- firmware: what is left, and what the number says
   pub write : (number : ℕ) (text label : List ℕ) → AllBelow 256 text
       → Answers writeCodes (writeOutcome number (length label) text) (writtenLabel number text) label

@@ -58,7 +58,7 @@ module _ (least : ℕ) (e : List ℕ) {named : Named} (kind : named ≡ kindName
     abbrev byFilling : Outcome → Outcome
     byFilling next = refusedIf (not (isFilled labelCapacity e)) 14 0 next
 
-    by-number : (next : Outcome) → formTests labelCapacity least e next ≡ refusedIf (ltb reader least) 14 0 (refusedIf (not (within 1 labelCapacity (at e lengthStart))) 14 0 (byFilling next))
+    by-number : (next : Outcome) → formTests 1 labelCapacity least e next ≡ refusedIf (ltb reader least) 14 0 (refusedIf (not (within 1 labelCapacity (at e lengthStart))) 14 0 (byFilling next))
     unfolding formTests kindOf readerOf lengthOf isKnown
     by-number next = rw number (pass-if 14 0 _ _ (rw (← kind, is)))
 
@@ -74,7 +74,7 @@ module _ (least : ℕ) (e : List ℕ) {named : Named} (kind : named ≡ kindName
 
       module _ (some : 1 ≤ at e lengthStart) (short : at e lengthStart ≤ labelCapacity) (long : length e ≡ entryLength) {zeros : Bool}
           (tested : zeros ≡ everyIn (λ b. eqb b 0) (take (length e - (labelStart + at e lengthStart)) (drop (labelStart + at e lengthStart) e))) where
-        by-filling : (next : Outcome) → formTests labelCapacity least e next ≡ refusedIf (not zeros) 14 0 next
+        by-filling : (next : Outcome) → formTests 1 labelCapacity least e next ≡ refusedIf (not zeros) 14 0 next
         by-filling next =
             by-number next ∙ pass-below 14 0 _ _ _ rising ∙ pass-if 14 0 _ _ (ap not (within-true 1 labelCapacity _ some short))
             ∙ ap (λ (b : Bool). refusedIf (not b) 14 0 next) (filled-part e zeros long short tested)

@@ -35,26 +35,31 @@ headerTests kind t next =
 unfoldable pub lengthTests : (bytes needed : ℕ) → Outcome → Outcome
 lengthTests bytes needed next = refusedIf (ltb bytes needed) 13 0 (refusedIf (ltb needed bytes) 14 0 next)
 
--- the form of an entry with room for so many bytes of label, whose reader number is at least the
--- least: the kind, the reader number, the length, the filling (each 14); then what follows
-unfoldable pub formTests : (room least : ℕ) → List ℕ → Outcome → Outcome
-formTests room least e next =
+-- the header alone: its tests; else the number of entries that it announces
+unfoldable pub headerOutcome : (kind : ℕ) → List ℕ → Outcome
+headerOutcome kind t = headerTests kind t (done (countOf t))
+
+-- the form of an entry whose label has at least the fewest bytes and at most the room, and whose
+-- reader number is at least the least: the scheme, the reader number, the length, the filling of the
+-- room (each 14); then what follows
+unfoldable pub formTests : (fewest room least : ℕ) → List ℕ → Outcome → Outcome
+formTests fewest room least e next =
     refusedIf (not (isKnown (kindNames (kindOf e)))) 14 0
     (refusedIf (ltb (readerOf e) least) 14 0
-    (refusedIf (not (within 1 room (lengthOf e))) 14 0
+    (refusedIf (not (within fewest room (lengthOf e))) 14 0
     (refusedIf (not (isFilled room e)) 14 0
     next)))
 
 -- the verdict on one entry: its form's, then the label's own, at 0; else its reader number
-unfoldable pub entryJudged : (room least : ℕ) → List ℕ → Outcome
-entryJudged room least e = formTests room least e (andThen (λ _. 0) (decodeOutcome (schemeIn e) textCapacity (labelIn e)) (done (readerOf e)))
+unfoldable pub entryJudged : (fewest room least : ℕ) → List ℕ → Outcome
+entryJudged fewest room least e = formTests fewest room least e (andThen (λ _. 0) (decodeOutcome (schemeIn e) textCapacity (labelIn e)) (done (readerOf e)))
 
 -- the entries from an index on, so many, each judged at its index; reader numbers rise strictly
 -- from the least on
 unfoldable pub entriesJudged : (index least left : ℕ) → List ℕ → (total : ℕ) → Outcome
 entriesJudged index least zero bytes total = done total
 entriesJudged index least (suc left) bytes total =
-    andThen (λ _. index) (entryJudged labelCapacity least (take entryLength bytes))
+    andThen (λ _. index) (entryJudged 1 labelCapacity least (take entryLength bytes))
     (entriesJudged (suc index) (suc (readerOf bytes)) left (drop entryLength bytes) total)
 
 -- reading a table: the header, the length that its count asks, then entry by entry; it answers the
@@ -73,18 +78,30 @@ textIn e = textOf (schemeIn e) (labelIn e)
 abbrev pub entryText : List ℕ → ℕ → List ℕ
 entryText t index = textIn (entryAt t index)
 
--- one entry by index: 1 for a capacity under 63; the table's own refusal; 14 for an index not below
--- the number of entries; else the count of points
-unfoldable pub findOutcome : List ℕ → (index capacity : ℕ) → Outcome
-findOutcome t index capacity =
+-- one entry by index of a table of so many entries, with this verdict: 1 for a capacity under 63;
+-- the table's own refusal; 14 for an index not below the number of entries; else so many points
+unfoldable pub foundOutcome : (verdict : Outcome) (count index capacity points : ℕ) → Outcome
+foundOutcome verdict count index capacity points =
     refusedIf (ltb capacity textCapacity) 1 0
-    (andThen (λ p. p) (readOutcome t)
-    (refusedIf (leb (countOf t) index) 14 0
-    (done (length (entryText t index)))))
+    (andThen (λ p. p) verdict
+    (refusedIf (leb count index) 14 0
+    (done points)))
+
+-- one entry by index: it answers the count of points
+unfoldable pub findOutcome : List ℕ → (index capacity : ℕ) → Outcome
+findOutcome t index capacity = foundOutcome (readOutcome t) (countOf t) index capacity (length (entryText t index))
 
 -- reading one entry by itself: the verdict on it, at the position; else the count of points
 unfoldable pub entryRead : (least position : ℕ) → List ℕ → Outcome
-entryRead least position e = andThen (λ _. position) (entryJudged labelCapacity least e) (done (length (textIn e)))
+entryRead least position e = andThen (λ _. position) (entryJudged 1 labelCapacity least e) (done (length (textIn e)))
+
+-- an entry that comes without its table: 1 for a capacity under 63; 13 for fewer bytes than an entry
+-- has, 14 for more; then the entry by itself
+unfoldable pub loneEntryOutcome : (least position capacity : ℕ) → List ℕ → Outcome
+loneEntryOutcome least position capacity e =
+    refusedIf (ltb capacity textCapacity) 1 0
+    (lengthTests (length e) entryLength
+    (entryRead least position e))
 
 -- one entry by index of a table that was judged: 1 for a capacity under 63; 13 for a table with no
 -- whole header; 14 for an index not below the number of entries that the header announces; 13 for a

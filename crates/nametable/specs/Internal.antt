@@ -12,6 +12,6 @@ use Rattle.nametable.specs.declared.entries.Form.the-variants.{Lawful, M
 -- these, or one refuses
 abbrev pub Tested : (least : ℕ) → List ℕ → Form → Type 0
 Tested least e (Lawful scheme reader end) =
-    ((next : Outcome) → formTests labelCapacity least e next ≡ next)
+    ((next : Outcome) → formTests 1 labelCapacity least e next ≡ next)
     × (schemeIn e ≡ scheme) × (readerOf e ≡ reader) × (end ≡ labelStart + lengthOf e) × (lengthOf e ≤ labelCapacity)
-Tested least e Malformed = (next : Outcome) → formTests labelCapacity least e next ≡ refused 14 0
+Tested least e Malformed = (next : Outcome) → formTests 1 labelCapacity least e next ≡ refused 14 0

@@ -34,7 +34,7 @@ pub(crate) enum Form {
     Malformed,
 }
 
-// The answer of `read` with an error.
+// The answer with an error of a function that judges a table or its header.
 pub(crate) fn table_error(code: ErrorCode, position: usize) -> TableAnswer
     ensures { λ r. ⌜ r ≡ TableAnswer.Error code position ⌝ }
 {

@@ -1,4 +1,5 @@
-// The name table (the paper's book of names): reading it, one entry of it by index, and writing it.
+// The name table (the paper's book of names): reading it, one entry of it by index, its header and an
+// entry by themselves, and writing it.
 mod entries;
 mod layout;
 
@@ -15,19 +16,20 @@ ghost use mathlib.Core.Path.{_≡_};
 ghost use lib.ListN.{length};
 ghost use Rattle.basis.specs.Outcome.{bytesOutcome, bufferAfter};
 ghost use Rattle.nametable_format.specs.Format.{entryAt};
-ghost use Rattle.nametable.specs.Answer.{tableOutcome, readOutcome, entryOutcome, entryFrom, findOutcome, judgedEntryOutcome, entryText};
+ghost use Rattle.nametable.specs.Answer.{tableOutcome, headerOutcome, readOutcome, entryOutcome, entryFrom, findOutcome, textIn, loneEntryOutcome, judgedEntryOutcome, entryText};
 ghost use Rattle.nametable_write.specs.Writing.{entriesOf, writeOutcome, tableOf};
 
 // The room that a caller must have for the text of an entry, in points.
 pub const TEXT_CAPACITY: usize = 63;
 
-// What `read` answers: the number of entries, or the error.
+// What `header` and `read` answer: the number of entries, or the error.
 pub enum TableAnswer {
     Entries(usize),
     Error { code: ErrorCode, position: usize },
 }
 
-// What `entry` and `judged_entry` answer: reader number, scheme and count of points, or the error.
+// What a function that reads an entry answers: reader number, scheme and count of points, or the
+// error.
 pub enum EntryAnswer {
     Entry {
         reader: u16,
@@ -40,28 +42,40 @@ pub enum EntryAnswer {
     },
 }
 
-// Judges a whole table.
-pub fn read(table: &[u8]) -> TableAnswer
-    ensures { λ r. ⌜ tableOutcome r ≡ readOutcome (now (table .entry)) ⌝ }
+// Judges the header of a table, which is to be of this kind, and answers the number of entries that
+// it announces.
+pub fn header(kind: u8, table: &[u8]) -> TableAnswer
+    ensures { λ r. ⌜ tableOutcome r ≡ headerOutcome kind (now (table .entry)) ⌝ }
 {
     if table.len() == 0 {
         return entries::table_error(ErrorCode::Truncated, 0);
     }
-    let kind = table[0];
-    if kind != HEADER_KIND {
+    let first = table[0];
+    if first != kind {
         return entries::table_error(ErrorCode::Malformed, 0);
     }
     if table.len() < HEADER_LENGTH {
         return entries::table_error(ErrorCode::Truncated, 0);
     }
     let count = layout::number_at(table, COUNT_START);
-    let length = HEADER_LENGTH + ENTRY_LENGTH * count;
     if count < 1 {
         return entries::table_error(ErrorCode::Malformed, 0);
     }
     if MOST_ENTRIES < count {
         return entries::table_error(ErrorCode::Malformed, 0);
     }
+    TableAnswer::Entries(count)
+}
+
+// Judges a whole table.
+pub fn read(table: &[u8]) -> TableAnswer
+    ensures { λ r. ⌜ tableOutcome r ≡ readOutcome (now (table .entry)) ⌝ }
+{
+    let announced = header(HEADER_KIND, table);
+    let TableAnswer::Entries(count) = announced else {
+        return announced;
+    };
+    let length = HEADER_LENGTH + ENTRY_LENGTH * count;
     if table.len() < length {
         return entries::table_error(ErrorCode::Truncated, 0);
     }
@@ -69,6 +83,24 @@ pub fn read(table: &[u8]) -> TableAnswer
         return entries::table_error(ErrorCode::Malformed, 0);
     }
     entries::judge(table, count)
+}
+
+// Reads an entry that comes without its table, and whose reader number is to be at least the least.
+// An error of the entry is reported at the position.
+pub fn lone_entry(entry: &[u8], least: usize, position: usize, text: &mut [u32]) -> EntryAnswer
+    ensures { λ r. ⌜ entryOutcome r ≡ entryFrom (now (entry .entry)) (loneEntryOutcome least position (length (now (text .entry))) (now (entry .entry))) ⌝ }
+    ensures { λ _. ⌜ now (text .exit) ≡ bufferAfter (loneEntryOutcome least position (length (now (text .entry))) (now (entry .entry))) (textIn (now (entry .entry))) (now (text .entry)) ⌝ }
+{
+    if text.len() < TEXT_CAPACITY {
+        return entries::entry_error(ErrorCode::Capacity, 0);
+    }
+    if entry.len() < ENTRY_LENGTH {
+        return entries::entry_error(ErrorCode::Truncated, 0);
+    }
+    if ENTRY_LENGTH < entry.len() {
+        return entries::entry_error(ErrorCode::Malformed, 0);
+    }
+    entries::read_entry(entry, least, position, text)
 }
 
 // Reads the entry at an index of a table that was judged before. Nothing but the header's count and

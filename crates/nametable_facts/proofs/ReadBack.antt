@@ -92,7 +92,7 @@ module _ (reader scheme : ℕ) (text : List ℕ) (spelled : Spelled (entry reade
   unfolding textIn
   text-held = rw (scheme-held, label-held) text-back
 
-  entry-judged : (least : ℕ) → least ≤ reader → entryJudged labelCapacity least bytes ≡ done reader
+  entry-judged : (least : ℕ) → least ≤ reader → entryJudged 1 labelCapacity least bytes ≡ done reader
   unfolding entryJudged formTests andThen
   entry-judged least rising =
       let some : 1 ≤ length label = label-some (schemeOf scheme) text (label-writable reader scheme text spelled) in

@@ -44,15 +44,15 @@ unfolding schemeOf schemeNamed
 scheme-again s = rw (number-names s)
 
 -- what an entry that reads holds
-record Read (least : ℕ) (e : List ℕ) : Type 0 where
-  known : isKnown (kindNames (kindOf e)) ≡ true
-  rising : least ≤ readerOf e
-  short : lengthOf e ≤ labelCapacity
-  fills : isFilled labelCapacity e ≡ true
-  points : ℕ
-  decodes : decodeOutcome (schemeIn e) textCapacity (labelIn e) ≡ done points
+pub record Read (least : ℕ) (e : List ℕ) : Type 0 where
+  pub known : isKnown (kindNames (kindOf e)) ≡ true
+  pub rising : least ≤ readerOf e
+  pub short : lengthOf e ≤ labelCapacity
+  pub fills : isFilled labelCapacity e ≡ true
+  pub points : ℕ
+  pub decodes : decodeOutcome (schemeIn e) textCapacity (labelIn e) ≡ done points
 
-judged-read : (least : ℕ) (e : List ℕ) {n : ℕ} → entryJudged labelCapacity least e ≡ done n → Read least e
+pub judged-read : (least : ℕ) (e : List ℕ) {n : ℕ} → entryJudged 1 labelCapacity least e ≡ done n → Read least e
 unfolding entryJudged formTests
 judged-read least e j =
     let kind = passed _ _ _ _ _ j in
@@ -133,10 +133,14 @@ from-count t index (suc left) = ap suc (from-count t (suc index) left)
 
 -- a table that reads whole: its entries may be written, in as many bytes
 module _ (t : List ℕ) (n : ℕ) (read : readOutcome t ≡ done n) where
-  judged : entriesJudged 0 0 n (drop headerLength t) n ≡ done n
-  judged =
+  pub entries-read : entriesJudged 0 0 n (drop headerLength t) n ≡ done n
+  entries-read =
       let w = read-table t n read in
       sym (by-entries t (w .kind) (omega (arith, w .long)) (w .counted) (omega (arith, w .some, w .counted)) (omega (arith, w .few, w .counted)) (w .long)) ∙ read
+
+  pub entry-whole : (k : ℕ) → k < n → length (entryAt t k) ≡ entryLength
+  unfolding entryAt
+  entry-whole k h = length-take-le 67 (drop (3 + 67 * k) t) (omega (arith, length-drop (3 + 67 * k) t, read-table t n read .long))
 
   held-is : entriesIn t ≡ entriesFrom t 0 n
   unfolding entriesIn
@@ -156,7 +160,7 @@ module _ (t : List ℕ) (n : ℕ) (read : readOutcome t ≡ done n) where
       (pass-below 1 0 _ capacity (tableLength (length (readersOf es))) (omega (arith, total))
       ∙ by-sum (readersOf es) (schemesOf es) (lengthsOf es) (pointsOf es) (omega (arith, r, w .some, w .counted)) (omega (arith, r, w .few, w .counted)) s l true
       (sym (eq-eqb _ _ (points-count es))) .0 _
-      ∙ rw (rows-list es) (read-written t 0 0 n n (tableLength (length (readersOf es))) judged) ∙ ap done total)
+      ∙ rw (rows-list es) (read-written t 0 0 n n (tableLength (length (readersOf es))) entries-read) ∙ ap done total)
 
 -- a whole entry of bytes that reads: it is written again as it was exactly if its label is the one
 -- that writing gives
@@ -241,14 +245,10 @@ same-held t index (suc left) longs is (suc k) h =
 -- a table of bytes that reads whole is written again as it was exactly if every label is the one
 -- that writing gives
 module _ (t : List ℕ) (n : ℕ) (read : readOutcome t ≡ done n) (below : AllBelow 256 t) where
-  entry-whole : (k : ℕ) → k < n → length (entryAt t k) ≡ entryLength
-  unfolding entryAt
-  entry-whole k h = length-take-le 67 (drop (3 + 67 * k) t) (omega (arith, length-drop (3 + 67 * k) t, read-table t n read .long))
-
   entry-below : (k : ℕ) → k < n → AllBelow 256 (entryAt t k)
   unfolding entryAt
   entry-below k h i g =
-      let inside : i < 67 = rw (entry-whole k h) at g in
+      let inside : i < 67 = rw (entry-whole t n read k h) at g in
       rw (getD-take 67 (drop (3 + 67 * k) t) i 0 inside, getD-drop (3 + 67 * k) t i 0) (row-below 256 t (omega arith) below (3 + 67 * k + i))
 
   entry-read : (k : ℕ) → k < n → Read 0 (entryAt t k)
@@ -283,9 +283,9 @@ module _ (t : List ℕ) (n : ℕ) (read : readOutcome t ≡ done n) (below : All
   same-bytes = (
     λ h k g.
         let z : 0 + k ≡ k = omega arith in
-        same-label (entryAt t k) (entry-whole k g) (entry-below k g) (entry-read k g) (rw z at (same-held t 0 n again-long (table-same h) k g)),
+        same-label (entryAt t k) (entry-whole t n read k g) (entry-below k g) (entry-read k g) (rw z at (same-held t 0 n again-long (table-same h) k g)),
     λ labels.
         let z : 0 + n ≡ n = omega arith in
         same-table (held-same t 0 n (rw z (read-table t n read .long))
-        (λ k g. let i : 0 + k ≡ k = omega arith in rw i (same-entry (entryAt t k) (entry-whole k g) (entry-below k g) (entry-read k g) (labels k g)))),
+        (λ k g. let i : 0 + k ≡ k = omega arith in rw i (same-entry (entryAt t k) (entry-whole t n read k g) (entry-below k g) (entry-read k g) (labels k g)))),
   )

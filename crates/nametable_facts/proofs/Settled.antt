@@ -12,7 +12,7 @@ use native.Mathlib.Omega.{arith}
 use Rattle.basis.specs.Tests.{every, within, firstBelow}
 use Rattle.basis.specs.Rows.{at}
 use Rattle.basis.specs.Outcome.{Outcome}
-use Rattle.basis.specs.Causes.{Cause, Settles}
+use Rattle.basis.specs.Causes.{Cause, movedAll, Settles}
 use Rattle.basis.proofs.Tests.{by-lt, true-not-false, ltb-iff, leb-iff, eqb-iff, fails-iff, within-true, within-below, within-above, none-iff, not-each, first-le, first-here}
 use Rattle.basis.proofs.Causes.{settle-done, settle-whole, settle-andThen}
 use Rattle.basis.proofs.Codec.{encode-settled, decode-settled}
@@ -22,23 +22,23 @@ use Rattle.scheme.specs.Coding.{codecOf, labelOf}
 use Rattle.scheme.proofs.Naming.{names-none-iff}
 use Rattle.scheme.proofs.Coding.{faithful}
 use Rattle.nametable_format.specs.Format.{headerKind, headerLength, mostEntries, entryLength, labelCapacity, textCapacity, labelStart, countOf, tableLength, entryAt, kindOf, readerOf, lengthOf, labelIn, isFilled, schemeIn}
-use Rattle.nametable.specs.Answer.{headerTests, lengthTests, formTests, entryJudged, entriesJudged, readOutcome, entryText, findOutcome, entryRead, judgedEntryOutcome}
+use Rattle.nametable.specs.Answer.{headerTests, lengthTests, headerOutcome, formTests, entryJudged, entriesJudged, readOutcome, textIn, entryText, foundOutcome, findOutcome, entryRead, loneEntryOutcome, judgedEntryOutcome}
 use Rattle.nametable_write.specs.Writing.{Entry, entry, entriesOf, sumOf, listTests, schemeOf, entryWritten, entriesWritten, writeOutcome}
-use Rattle.nametable_facts.specs.Causes.{UnknownKind, UnknownScheme, Outside, NotFilled, entryCauses, entriesCauses, headerCauses, lengthCauses, tableCauses, findCauses, judgedEntryCauses, entryWriteCauses, entriesWriteCauses, writeCauses}
+use Rattle.nametable_facts.specs.Causes.{UnknownKind, UnknownScheme, Outside, NotFilled, entryCauses, entriesCauses, headerCauses, lengthCauses, tableCauses, foundCauses, findCauses, loneEntryCauses, judgedEntryCauses, entryWriteCauses, entriesWriteCauses, writeCauses}
 
 -- the tests that the causes are about
 unknown-iff : (e : List ℕ) → (not (isKnown (kindNames (kindOf e))) ≡ true) ↔ UnknownKind e
 unfolding kindNames
 unknown-iff e = names-none-iff naming.kindOf (kindOf e)
 
-outside-iff : (low high n : ℕ) → (not (within low high n) ≡ true) ↔ Outside low high n
+pub outside-iff : (low high n : ℕ) → (not (within low high n) ≡ true) ↔ Outside low high n
 outside-iff low high n = (
   λ e. by-lt n low inl (λ l. by-lt high n inr (λ h. absurd (true-not-false (within-true low high n l h) (not-true _ e)))),
   ⊎-elim (λ l. ap not (within-below low high n l)) (λ h. ap not (within-above low high n h)),
 )
 
 -- not all numbers of a row are 0: one is not
-some-not : (n : ℕ) (row : ℕ → ℕ) → (not (every n (λ i. eqb (row i) 0)) ≡ true) ↔ ((i : ℕ) × (i < n) × (row i ≡ 0 → ⊥))
+pub some-not : (n : ℕ) (row : ℕ → ℕ) → (not (every n (λ i. eqb (row i) 0)) ≡ true) ↔ ((i : ℕ) × (i < n) × (row i ≡ 0 → ⊥))
 some-not n row = (
   λ e. by-lt (firstBelow n (λ i. not (eqb (row i) 0))) n
       (λ h. (firstBelow n (λ i. not (eqb (row i) 0)), h, eqb-false _ 0 (not-true _ (first-here n (λ i. not (eqb (row i) 0)) h))))
@@ -59,17 +59,21 @@ header-settled kind t rest =
     (λ _. settle-whole _ 13 (ltb-iff (length t) headerLength)
     (λ _. settle-whole _ 14 (outside-iff 1 mostEntries (countOf t)) (λ _. rest))))
 
+pub header-alone-settled : (kind : ℕ) (t : List ℕ) → Settles (headerCauses kind t []) (countOf t) (headerOutcome kind t)
+unfolding headerOutcome
+header-alone-settled kind t = header-settled kind t (settle-done (countOf t))
+
 pub length-settled : (bytes needed : ℕ) {later : List Cause} {count : ℕ} {next : Outcome} → Settles later count next → Settles (lengthCauses bytes needed later) count (lengthTests bytes needed next)
 unfolding lengthTests
 length-settled bytes needed rest = settle-whole _ 13 (ltb-iff bytes needed) (λ _. settle-whole _ 14 (ltb-iff needed bytes) (λ _. rest))
 
-pub entry-settled : (room least : ℕ) (e : List ℕ) → Settles (entryCauses room least e) (readerOf e) (entryJudged room least e)
+pub entry-settled : (fewest room least : ℕ) (e : List ℕ) → Settles (entryCauses fewest room least e) (readerOf e) (entryJudged fewest room least e)
 unfolding entryJudged formTests
-entry-settled room least e =
+entry-settled fewest room least e =
     let s = schemeIn e in
     settle-whole _ 14 (unknown-iff e)
     (λ _. settle-whole _ 14 (ltb-iff (readerOf e) least)
-    (λ _. settle-whole _ 14 (outside-iff 1 room (lengthOf e))
+    (λ _. settle-whole _ 14 (outside-iff fewest room (lengthOf e))
     (λ _. settle-whole _ 14 (unfilled-iff room e)
     (λ _. settle-andThen (λ _. 0) _ [] _ _ _ _ (decode-settled (codecOf s) (faithful s) textCapacity (labelIn e) (omega arith)) (λ _ _. settle-done (readerOf e))))))
 
@@ -77,33 +81,51 @@ entries-settled : (index least left : ℕ) (bytes : List ℕ) (total : ℕ) → 
 unfolding entriesCauses entriesJudged
 entries-settled index least zero bytes total = settle-done total
 entries-settled index least (suc left) bytes total =
-    settle-andThen (λ _. index) (entryCauses labelCapacity least (take entryLength bytes)) _ _ total _ _ (entry-settled labelCapacity least (take entryLength bytes))
+    settle-andThen (λ _. index) (entryCauses 1 labelCapacity least (take entryLength bytes)) _ _ total _ _ (entry-settled 1 labelCapacity least (take entryLength bytes))
     (λ _ _. entries-settled (suc index) (suc (readerOf bytes)) left (drop entryLength bytes) total)
 
 pub read-settled : (t : List ℕ) → Settles (tableCauses t) (countOf t) (readOutcome t)
 unfolding readOutcome
 read-settled t = header-settled headerKind t (length-settled _ _ (entries-settled 0 0 (countOf t) (drop headerLength t) (countOf t)))
 
+-- one entry by index, whatever the table's causes settle
+pub found-settled : {table : List Cause} {n : ℕ} {verdict : Outcome} (count index capacity points : ℕ) → Settles table n verdict
+    → Settles (foundCauses table count index capacity) points (foundOutcome verdict count index capacity points)
+unfolding foundOutcome
+found-settled {table} {n} {verdict} count index capacity points settled =
+    settle-whole _ 1 (ltb-iff capacity textCapacity)
+    (λ _. settle-andThen (λ p. p) table _ n points verdict _ settled
+    (λ _ _. settle-whole _ 14 (leb-iff count index) (λ _. settle-done points)))
+
+-- one entry by itself
+entry-read-settled : (least position : ℕ) (e : List ℕ)
+    → Settles (movedAll (λ _. position) (entryCauses 1 labelCapacity least e) []) (length (textIn e)) (entryRead least position e)
+unfolding entryRead
+entry-read-settled least position e =
+    settle-andThen (λ _. position) (entryCauses 1 labelCapacity least e) [] _ _ _ _ (entry-settled 1 labelCapacity least e) (λ _ _. settle-done (length (textIn e)))
+
+pub lone-entry-settled : (least position capacity : ℕ) (e : List ℕ)
+    → Settles (loneEntryCauses least position capacity e) (length (textIn e)) (loneEntryOutcome least position capacity e)
+unfolding loneEntryOutcome
+lone-entry-settled least position capacity e =
+    settle-whole _ 1 (ltb-iff capacity textCapacity) (λ _. length-settled (length e) entryLength (entry-read-settled least position e))
+
 module _ (t : List ℕ) (index capacity : ℕ) where
   pub find-settled : Settles (findCauses t index capacity) (length (entryText t index)) (findOutcome t index capacity)
   unfolding findOutcome
-  find-settled =
-      settle-whole _ 1 (ltb-iff capacity textCapacity)
-      (λ _. settle-andThen (λ p. p) (tableCauses t) _ (countOf t) _ (readOutcome t) _ (read-settled t)
-      (λ _ _. settle-whole _ 14 (leb-iff (countOf t) index) (λ _. settle-done (length (entryText t index)))))
+  find-settled = found-settled (countOf t) index capacity (length (entryText t index)) (read-settled t)
 
   pub judged-entry-settled : Settles (judgedEntryCauses t index capacity) (length (entryText t index)) (judgedEntryOutcome t index capacity)
-  unfolding judgedEntryOutcome entryRead
+  unfolding judgedEntryOutcome
   judged-entry-settled =
       settle-whole _ 1 (ltb-iff capacity textCapacity)
       (λ _. settle-whole _ 13 (ltb-iff (length t) headerLength)
       (λ _. settle-whole _ 14 (leb-iff (countOf t) index)
       (λ _. settle-whole _ 13 (ltb-iff (length t) (tableLength (suc index)))
-      (λ _. settle-andThen (λ _. index) (entryCauses labelCapacity 0 (entryAt t index)) [] _ _ _ _ (entry-settled labelCapacity 0 (entryAt t index))
-      (λ _ _. settle-done (length (entryText t index)))))))
+      (λ _. entry-read-settled 0 index (entryAt t index)))))
 
 -- writing
-unknown-scheme-iff : (number : ℕ) → (not (isKnown (ownNumberNames number)) ≡ true) ↔ UnknownScheme number
+pub unknown-scheme-iff : (number : ℕ) → (not (isKnown (ownNumberNames number)) ≡ true) ↔ UnknownScheme number
 unfolding ownNumberNames
 unknown-scheme-iff number = names-none-iff naming.numberOf number
 

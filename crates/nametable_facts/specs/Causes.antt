@@ -25,11 +25,12 @@ Outside low high n = (n < low) ⊎ (high < n)
 abbrev pub NotFilled : (room : ℕ) → List ℕ → Type 0
 NotFilled room e = (i : ℕ) × (i < room - lengthOf e) × (at e (labelStart + lengthOf e + i) ≡ 0 → ⊥)
 
--- against one entry with room for so many bytes of label, whose reader number is to be at least the
--- least: the kind, the reader number, the length, the filling, then the label's own, at 0
-abbrev pub entryCauses : (room least : ℕ) → List ℕ → List Cause
-entryCauses room least e =
-    whole 14 (UnknownKind e) ∷ whole 14 (readerOf e < least) ∷ whole 14 (Outside 1 room (lengthOf e)) ∷ whole 14 (NotFilled room e)
+-- against one entry whose label is to have at least the fewest bytes and at most the room, and whose
+-- reader number is to be at least the least: the kind, the reader number, the length, the filling,
+-- then the label's own, at 0
+abbrev pub entryCauses : (fewest room least : ℕ) → List ℕ → List Cause
+entryCauses fewest room least e =
+    whole 14 (UnknownKind e) ∷ whole 14 (readerOf e < least) ∷ whole 14 (Outside fewest room (lengthOf e)) ∷ whole 14 (NotFilled room e)
     ∷ movedAll (λ _. 0) (codecOf (schemeIn e) .labelCauses (labelIn e)) []
 
 -- against the entries from an index on, so many, each at its index; the next reader number is to be
@@ -37,7 +38,7 @@ entryCauses room least e =
 unfoldable pub entriesCauses : (index least left : ℕ) → List ℕ → List Cause
 entriesCauses index least zero bytes = []
 entriesCauses index least (suc left) bytes =
-    movedAll (λ _. index) (entryCauses labelCapacity least (take entryLength bytes)) (entriesCauses (suc index) (suc (readerOf bytes)) left (drop entryLength bytes))
+    movedAll (λ _. index) (entryCauses 1 labelCapacity least (take entryLength bytes)) (entriesCauses (suc index) (suc (readerOf bytes)) left (drop entryLength bytes))
 
 -- against a header of this kind: empty; another first byte; under 3 bytes; a count that is not 1 to
 -- 500; then the later ones
@@ -53,16 +54,26 @@ lengthCauses bytes needed later = whole 13 (bytes < needed) ∷ whole 14 (needed
 abbrev pub tableCauses : List ℕ → List Cause
 tableCauses t = headerCauses headerKind t (lengthCauses (length t) (tableLength (countOf t)) (entriesCauses 0 0 (countOf t) (drop headerLength t)))
 
--- against one entry by index: 1, the table's own, then an index not below the number of entries
+-- against one entry by index of a table of so many entries, against which these causes are: 1, the
+-- table's own, then an index not below the number of entries
+abbrev pub foundCauses : (table : List Cause) (count index capacity : ℕ) → List Cause
+foundCauses table count index capacity = whole 1 (capacity < textCapacity) ∷ movedAll (λ p. p) table (whole 14 (count ≤ index) ∷ [])
+
+-- against one entry by index
 abbrev pub findCauses : List ℕ → (index capacity : ℕ) → List Cause
-findCauses t index capacity = whole 1 (capacity < textCapacity) ∷ movedAll (λ p. p) (tableCauses t) (whole 14 (countOf t ≤ index) ∷ [])
+findCauses t index capacity = foundCauses (tableCauses t) (countOf t) index capacity
+
+-- against an entry that comes without its table: 1, the length, then the entry's own, at the position
+abbrev pub loneEntryCauses : (least position capacity : ℕ) → List ℕ → List Cause
+loneEntryCauses least position capacity e =
+    whole 1 (capacity < textCapacity) ∷ lengthCauses (length e) entryLength (movedAll (λ _. position) (entryCauses 1 labelCapacity least e) [])
 
 -- against one entry by index of a table that was judged: 1, no whole header, an index not below the
 -- number of entries, an end before that of the entry, then the entry's own, at its index
 abbrev pub judgedEntryCauses : List ℕ → (index capacity : ℕ) → List Cause
 judgedEntryCauses t index capacity =
     whole 1 (capacity < textCapacity) ∷ whole 13 (length t < headerLength) ∷ whole 14 (countOf t ≤ index) ∷ whole 13 (length t < tableLength (suc index))
-    ∷ movedAll (λ _. index) (entryCauses labelCapacity 0 (entryAt t index)) []
+    ∷ movedAll (λ _. index) (entryCauses 1 labelCapacity 0 (entryAt t index)) []
 
 -- the number is no scheme's
 abbrev pub UnknownScheme : ℕ → Type 0

@@ -4,7 +4,7 @@ mod listing;
 use libc::STDIN_FILENO;
 
 fn main() {
-    // one byte more than the longest table, to know a longer one
+    // one byte more than the longest table of the long form, to know a longer one
     let mut table = [0u8; 33504];
     let read = streams::read_full(STDIN_FILENO, &mut table);
     let ending = read.ending;

@@ -1,10 +1,10 @@
 -- Laws on the bytes of entries to be written: zeros, the bytes of one entry, those of all, and the
 -- table.
 use Prim.Native.Nat.{ℕ, zero, suc, _+_, _-_, _*_, _≤_, _<_}
-use mathlib.Core.Path.{_≡_, refl, sym, ap, _∙_}
-use mathlib.Core.List.{List, [], _∷_, _++_, append-nil, append-assoc}
+use mathlib.Core.Path.{_≡_, refl, ap, _∙_}
+use mathlib.Core.List.{List, [], _∷_, _++_, append-nil}
 use lib.ListN.{length, getD, take, drop, set, length-append, drop-of-length-le}
-use lib.Seq.{drop-drop, sets, sets-eq, length-sets}
+use lib.Seq.{sets, length-sets}
 use native.Mathlib.Omega.{arith}
 use Rattle.basis.specs.Rows.{tabulate}
 use Rattle.basis.specs.Outcome.{done, countOf, bytesOutcome, bufferAfter}
@@ -13,7 +13,7 @@ use Rattle.basis.specs.declared.BytesAnswer.{BytesAnswer}
 use Rattle.basis.proofs.Lists.{length-tabulate, fill-more}
 use Rattle.basis.proofs.Outcome.{both-done, passed}
 use Rattle.basis.proofs.Parts.{part-is, part-back}
-use Rattle.basis.proofs.Stores.{StoringFrom, Stored, storing-piece, storing-end, stored-append}
+use Rattle.basis.proofs.Stores.{StoringFrom, Stored, storing-piece, storing-end, stored-append, stored-part}
 use Rattle.scheme.specs.Naming as naming
 use Rattle.scheme.specs.Coding.{codecOf, encodeOutcome, labelOf}
 use Rattle.scheme.specs.declared.Scheme.{Scheme}
@@ -127,14 +127,6 @@ unfolding entriesWritten
 written-total index least [] total e = cc
 written-total index least (x ∷ es) total e = written-total _ _ es total (both-done _ _ _ e .1)
 
--- the part of a table for an entry, put back filled
-part-stored : (table piece : List ℕ) (at : ℕ) → at + entryLength ≤ length table → length piece ≡ entryLength
-    → take at table ++ (piece ++ drop (at + entryLength - at) (drop at table)) ≡ sets table at piece
-part-stored table piece at h long =
-    let n : at + 67 - at ≡ 67 = omega arith in
-    let fits : at + length piece ≤ length table = omega arith in
-    rw (n, drop-drop 67 at table) (sym (sets-eq piece table at fits ∙ rw long (append-assoc (take at table) piece (drop (at + 67) table))))
-
 -- the entries stored one by one: a turn, at the entry at index i, and the end
 module _ (readers schemes lengths points old : List ℕ) where
   abbrev pub Putting : (table : List ℕ) (at i start : ℕ) → Type 0
@@ -151,13 +143,9 @@ module _ (readers schemes lengths points old : List ℕ) where
     unfolding entriesBytes
     put-turn s spelled fits piece is =
         let long : length piece ≡ entryLength = ap length is ∙ entry-long _ _ _ spelled in
-        let stores = part-stored table piece at fits long in
         let splits : entriesBytes (left readers schemes lengths points i start) ≡ piece ++ entriesBytes (left readers schemes lengths points (i + 1) (start + getD lengths i 0))
         = rw is (ap entriesBytes (left-next readers schemes lengths points rows i start more)) in
-        let at-next : at + entryLength + 0 ≡ at + length piece = omega (arith, long) in
-        let stored : Stored table at piece (take at table ++ (piece ++ drop (at + entryLength - at) (drop at table))) (at + entryLength)
-        = record { stores = stores; count = at-next; long = ap length stores ∙ length-sets table at piece } in
-        storing-piece s splits stored
+        storing-piece s splits (stored-part table piece at (at + entryLength) (omega arith) fits)
 
   pub put-end : (table : List ℕ) (at i start : ℕ) → at ≡ tableLength (length readers) → length readers ≤ i → Putting table at i start
       → Stored old headerLength (entriesBytes (entriesOf readers schemes lengths points)) table (tableLength (length readers))

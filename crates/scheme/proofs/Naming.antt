@@ -1,12 +1,13 @@
 -- The directory's numbers, kinds and letters are distinct, so each is one scheme's own; and which
 -- values name no scheme.
-use Prim.Native.Nat.{ℕ}
+use Prim.Native.Nat.{ℕ, _<_}
 use mathlib.Core.Path.{_≡_, refl, sym, ap, _∙_}
 use mathlib.Core.Bool.{Bool, true, not}
 use mathlib.Core.Logic.{_↔_, _⊎_, inl, inr}
 use mathlib.Core.List.{List, [], _∷_}
 use lib.Dec.{eqb}
 use borrow.Author.Tests.{eqb-true, eq-eqb}
+use native.Mathlib.Omega.{arith}
 use Rattle.basis.specs.Tests.{both}
 use Rattle.basis.proofs.Tests.{cases, true-not-false, fails-iff, both-left, both-right}
 use Rattle.scheme.specs.Naming.{rowOf, schemes, numberOf, kindOf, letterOf, firstWith, defaultNumber, ownNumberNames, numberNames, kindNames, isKnown, schemeNamed}
@@ -61,6 +62,11 @@ same-value valueOf d s t e =
 
 pub same-number : (s t : Scheme) → numberOf s ≡ numberOf t → s ≡ t
 same-number = same-value numberOf (both-left _ _ directory-distinct)
+
+-- the numbers of schemes are bytes
+pub number-small : (s : Scheme) → numberOf s < 256
+unfolding numberOf rowOf
+number-small = by-scheme (λ s. numberOf s < 256) (omega arith) (omega arith) (omega arith)
 
 -- a scheme's number and its kind name it
 pub number-names : (s : Scheme) → ownNumberNames (numberOf s) ≡ Known s

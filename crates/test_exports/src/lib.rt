@@ -1,6 +1,6 @@
-// The converter, the schemes and the name table, exported to C for tests alone. In `answer` each
-// stores five numbers, if it has five elements or more: code (0 when done), position, count, and
-// for an entry of a table reader number and scheme number.
+// The converter, the schemes and the name table in both forms, exported to C for tests alone. In
+// `answer` each stores five numbers, if it has five elements or more: code (0 when done), position,
+// count, and for an entry of a table reader number and scheme number.
 mod answers;
 
 use utf16::PointCount;
@@ -21,8 +21,10 @@ ghost use Rattle.brace.specs.Encoding.{labelOf as braceLabelOf};
 ghost use Rattle.brace.specs.Decoding.{textOf as braceTextOf};
 ghost use Rattle.brace.specs.Answer.{encodeOutcome as braceEncodeOutcome, decodeOutcome as braceDecodeOutcome};
 ghost use Rattle.nametable_format.specs.Format.{entryAt};
-ghost use Rattle.nametable.specs.Answer.{readOutcome, findOutcome, judgedEntryOutcome, entryFrom, entryText};
+ghost use Rattle.nametable.specs.Answer.{headerOutcome, readOutcome, findOutcome, textIn, loneEntryOutcome, judgedEntryOutcome, entryFrom, entryText};
 ghost use Rattle.nametable_write.specs.Writing.{entriesOf, writeOutcome, tableOf};
+ghost use Rattle.nametable_short.specs.Format.{shortEntryAt, longOf};
+ghost use Rattle.nametable_short.specs.Answer.{shortReadOutcome, shortEntryText, shortFindOutcome, toShort, toLong, toShortOutcome, toLongOutcome};
 ghost use Rattle.test_exports.specs.Answer.{numbersOf, entryNumbersOf, answerAfter};
 
 // Exports `utf16::to_units`.
@@ -119,6 +121,29 @@ pub extern "C" fn test_table_entry(table: &[u8], index: usize, text: &mut [u32],
     answers::store_entry(nametable::entry(table, index, text), answer);
 }
 
+// Exports `nametable::header`.
+#[no_mangle]
+pub extern "C" fn test_table_header(kind: u8, table: &[u8], answer: &mut [u64])
+    ensures { λ _. ⌜ now (answer .exit) ≡ answerAfter (numbersOf (headerOutcome kind (now (table .entry)))) (now (answer .entry)) ⌝ }
+{
+    answers::store_table(nametable::header(kind, table), answer);
+}
+
+// Exports `nametable::lone_entry`.
+#[no_mangle]
+pub extern "C" fn test_table_lone_entry(
+    entry: &[u8],
+    least: usize,
+    position: usize,
+    text: &mut [u32],
+    answer: &mut [u64],
+)
+    ensures { λ _. ⌜ now (text .exit) ≡ bufferAfter (loneEntryOutcome least position (length (now (text .entry))) (now (entry .entry))) (textIn (now (entry .entry))) (now (text .entry)) ⌝ }
+    ensures { λ _. ⌜ now (answer .exit) ≡ answerAfter (entryNumbersOf (entryFrom (now (entry .entry)) (loneEntryOutcome least position (length (now (text .entry))) (now (entry .entry))))) (now (answer .entry)) ⌝ }
+{
+    answers::store_entry(nametable::lone_entry(entry, least, position, text), answer);
+}
+
 // Exports `nametable::judged_entry`.
 #[no_mangle]
 pub extern "C" fn test_table_judged_entry(
@@ -150,4 +175,39 @@ pub extern "C" fn test_table_write(
         nametable::write(readers, schemes, lengths, points, table),
         answer,
     );
+}
+
+// Exports `nametable_short::read`.
+#[no_mangle]
+pub extern "C" fn test_short_read(table: &[u8], answer: &mut [u64])
+    ensures { λ _. ⌜ now (answer .exit) ≡ answerAfter (numbersOf (shortReadOutcome (now (table .entry)))) (now (answer .entry)) ⌝ }
+{
+    answers::store_table(nametable_short::read(table), answer);
+}
+
+// Exports `nametable_short::entry`.
+#[no_mangle]
+pub extern "C" fn test_short_entry(table: &[u8], index: usize, text: &mut [u32], answer: &mut [u64])
+    ensures { λ _. ⌜ now (text .exit) ≡ bufferAfter (shortFindOutcome (now (table .entry)) index (length (now (text .entry)))) (shortEntryText (now (table .entry)) index) (now (text .entry)) ⌝ }
+    ensures { λ _. ⌜ now (answer .exit) ≡ answerAfter (entryNumbersOf (entryFrom (longOf (shortEntryAt (now (table .entry)) index)) (shortFindOutcome (now (table .entry)) index (length (now (text .entry)))))) (now (answer .entry)) ⌝ }
+{
+    answers::store_entry(nametable_short::entry(table, index, text), answer);
+}
+
+// Exports `nametable_short::to_short`.
+#[no_mangle]
+pub extern "C" fn test_to_short(table: &[u8], short: &mut [u8], answer: &mut [u64])
+    ensures { λ _. ⌜ now (short .exit) ≡ bufferAfter (toShortOutcome (now (table .entry)) (length (now (short .entry)))) (toShort (now (table .entry))) (now (short .entry)) ⌝ }
+    ensures { λ _. ⌜ now (answer .exit) ≡ answerAfter (numbersOf (toShortOutcome (now (table .entry)) (length (now (short .entry))))) (now (answer .entry)) ⌝ }
+{
+    answers::store_bytes(nametable_short::to_short(table, short), answer);
+}
+
+// Exports `nametable_short::to_long`.
+#[no_mangle]
+pub extern "C" fn test_to_long(short: &[u8], table: &mut [u8], answer: &mut [u64])
+    ensures { λ _. ⌜ now (table .exit) ≡ bufferAfter (toLongOutcome (now (short .entry)) (length (now (table .entry)))) (toLong (now (short .entry))) (now (table .entry)) ⌝ }
+    ensures { λ _. ⌜ now (answer .exit) ≡ answerAfter (numbersOf (toLongOutcome (now (short .entry)) (length (now (table .entry))))) (now (answer .entry)) ⌝ }
+{
+    answers::store_bytes(nametable_short::to_long(short, table), answer);
 }

@@ -185,7 +185,7 @@ fn print_program(targets: &[PathBuf; 2], name: &str, input: &Path, lines: usize)
     Ok(())
 }
 
-/// Writes the two inputs of the programs: the longest table there can be, and labels one a line.
+/// Writes the two inputs of the programs: the longest table of 01's form, and labels one a line.
 fn inputs(folder: &Path) -> io::Result<[PathBuf; 2]> {
     let mut source = Source::new(1);
     let mut entry = |reader| {

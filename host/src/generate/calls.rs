@@ -3,7 +3,7 @@
 //! not shared.
 
 use super::lists::{self, List};
-use super::{labels, tables, texts, Source};
+use super::{labels, short_tables, tables, texts, Source};
 use crate::scheme::Scheme;
 
 /// A call: what is given, and the lengths of the buffer and of the answer row.
@@ -14,12 +14,12 @@ pub struct Call<G> {
     pub answer: usize,
 }
 
-/// A row that is given, and the number beside it: a count, an index or a scheme
-/// number, else 0.
+/// A row that is given, and the number beside it: a count, an index, a scheme number
+/// or a header's kind, else 0. Beside an entry by itself are two numbers.
 #[derive(Clone, Debug)]
-pub struct Row<T> {
+pub struct Row<T, N = usize> {
     pub elements: Vec<T>,
-    pub number: usize,
+    pub number: N,
 }
 
 /// How long the answer row is: mostly as long as the five numbers.
@@ -31,8 +31,13 @@ fn answer_length(source: &mut Source) -> usize {
     }
 }
 
-/// A call on one row and a number.
-fn call<T>(source: &mut Source, elements: Vec<T>, number: usize, capacity: usize) -> Call<Row<T>> {
+/// A call on one row and a number, or what stands in its place.
+fn call<T, N>(
+    source: &mut Source,
+    elements: Vec<T>,
+    number: N,
+    capacity: usize,
+) -> Call<Row<T, N>> {
     Call { given: Row { elements, number }, capacity, answer: answer_length(source) }
 }
 
@@ -60,12 +65,11 @@ fn count_for(source: &mut Source, length: usize) -> usize {
     }
 }
 
-/// An index into a table of so many bytes: mostly of an entry, at times beyond
-/// the last, or so much that 67 times the index wraps.
-fn index_for(source: &mut Source, length: usize) -> usize {
+/// An index into a table of so many entries and bytes: mostly of an entry, at times
+/// beyond the last, or so much that 67 times the index wraps.
+fn index_for(source: &mut Source, entries: usize, length: usize) -> usize {
     // 67 times this number is 1 more than a multiple of 2^64.
     const INVERSE_OF_67: usize = 0xF0B7_672A_07A4_4C6B;
-    let entries = length / 67;
     match source.below(16) {
         0 => entries,
         1 => entries + source.between(1, 3),
@@ -154,7 +158,7 @@ pub fn brace_table_read(source: &mut Source) -> Call<Row<u8>> {
 /// Reading one entry of a table in which a scheme may be held, judged before or not.
 fn table_entry_holding(source: &mut Source, held: Option<Scheme>) -> Call<Row<u8>> {
     let table = tables::table(source, held);
-    let index = index_for(source, table.len());
+    let index = index_for(source, table.len() / 67, table.len());
     let capacity = capacity_around(source, 63);
     call(source, table, index, capacity)
 }
@@ -188,6 +192,76 @@ pub fn table_write(source: &mut Source) -> Call<List> {
 /// Writing the table of a list that holds a BRACE entry.
 pub fn brace_table_write(source: &mut Source) -> Call<List> {
     table_write_holding(source, Some(Scheme::Brace))
+}
+
+/// Judging the header of a table, which fills no buffer.
+pub fn table_header(source: &mut Source) -> Call<Row<u8>> {
+    let (kind, table) = tables::header(source);
+    call(source, table, usize::from(kind), 0)
+}
+
+/// Reading one entry by itself: the least reader number is mostly about its own, at
+/// times one that is the same in its last two or four bytes alone.
+pub fn table_lone_entry(source: &mut Source) -> Call<Row<u8, [usize; 2]>> {
+    let entry = tables::lone_entry(source);
+    let reader = match entry[..] {
+        [_, high, low, ..] => usize::from(u16::from_be_bytes([high, low])),
+        _ => 0,
+    };
+    let least = match source.below(8) {
+        0 => reader + 1,
+        1 => reader.saturating_sub(1),
+        2 => reader,
+        3 => source.below(65_538),
+        4 => source.pick(&[reader + 65_536, reader + (1 << 32), 1 << 63, usize::MAX]),
+        _ => 0,
+    };
+    let position = source.pick(&[0, 1, 7, 499, 500, 65_536, 1 << 32, usize::MAX]);
+    let capacity = capacity_around(source, 63);
+    call(source, entry, [least, position], capacity)
+}
+
+/// Reading a short table, which fills no buffer.
+pub fn short_read(source: &mut Source) -> Call<Row<u8>> {
+    let table = short_tables::table(source);
+    call(source, table, 0, 0)
+}
+
+/// How many entries a short table announces, but no more than could be in it.
+fn announced(short: &[u8]) -> usize {
+    match short {
+        [_, high, low, ..] => usize::from(u16::from_be_bytes([*high, *low])).min(short.len() / 21),
+        _ => 0,
+    }
+}
+
+/// Reading one entry of a short table.
+pub fn short_entry(source: &mut Source) -> Call<Row<u8>> {
+    let table = short_tables::table(source);
+    let index = index_for(source, announced(&table), table.len());
+    let capacity = capacity_around(source, 63);
+    call(source, table, index, capacity)
+}
+
+/// Moving a table to the short form. The capacity goes by the labels' lengths.
+pub fn to_short(source: &mut Source) -> Call<Row<u8>> {
+    let table = short_tables::long_table(source);
+    let lengths = table.iter().skip(6).step_by(67);
+    let entries = lengths.map(|length| match length {
+        0..=16 => 21,
+        17..=32 => 37,
+        _ => 68,
+    });
+    let need = 3 + entries.sum::<usize>();
+    let capacity = capacity_around(source, need);
+    call(source, table, 0, capacity)
+}
+
+/// Moving a short table to 01's form.
+pub fn to_long(source: &mut Source) -> Call<Row<u8>> {
+    let short = short_tables::table(source);
+    let capacity = capacity_around(source, 3 + 67 * announced(&short));
+    call(source, short, 0, capacity)
 }
 
 /// The scheme of a number; LACE's labels and texts are made for an unknown one.

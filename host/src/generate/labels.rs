@@ -40,6 +40,25 @@ pub fn lawful(source: &mut Source, scheme: Scheme) -> Vec<u8> {
     lawful_pair(source, scheme).1
 }
 
+/// A lawful label of so many bytes, 1 to 63. Of LACE, which has not every length, it
+/// is the longest of one run that is no longer, or the shortest.
+pub fn lawful_of_length(source: &mut Source, scheme: Scheme, length: usize) -> Vec<u8> {
+    match scheme {
+        // one character a point, 60 to 6F
+        Scheme::AltDude => (0..length).map(|_| source.pick(&altdude::CHARACTERS[..16])).collect(),
+        Scheme::Lace => {
+            let octets = length.saturating_sub(lace::PREFIX.len()) * 5 / 8;
+            let units = octets.saturating_sub(2).max(1);
+            let text: Vec<u32> = (0..units).map(|_| 0x430 + source.below(32) as u32).collect();
+            let mut buffer = [0; LABEL_MAX];
+            let count = lace::encode(&text, &mut buffer).expect("one run of so few units");
+            buffer[..count].to_vec()
+        }
+        // a plain label
+        Scheme::Brace => (0..length).map(|_| source.pick(b"abcxyzABCXYZ0129")).collect(),
+    }
+}
+
 /// A text that may be encoded.
 pub fn lawful_text(source: &mut Source, scheme: Scheme) -> Vec<u32> {
     lawful_pair(source, scheme).0

@@ -40,10 +40,10 @@ where
 
 /// Calls a function with a buffer of a capacity. Answers the elements written,
 /// or the error.
-pub fn called<G, B>(
-    function: Function<G, B>,
+pub fn called<G, B, N>(
+    function: Function<G, B, N>,
     given: &[G],
-    number: usize,
+    number: N,
     capacity: usize,
 ) -> Result<Vec<B>, Error>
 where

@@ -1,30 +1,25 @@
--- `read` meets its contract: each test answers in its turn, and the entries last.
+-- `read` meets its contract: the header, the length in both directions, and the entries last.
 use mathlib.Core.Path.{sym, _∙_}
 use native.Mathlib.Omega.{arith}
 use Rattle.basis.specs.declared.ErrorCode.the-variants.{Truncated, Malformed}
-use Rattle.nametable_format.specs.Format.{countOf}
-use Rattle.nametable.proofs.TableLaws.{empty-table, other-kind, short-header, no-entries, many-entries, cut-table, long-table, by-entries, table-answers}
+use Rattle.nametable_format.specs.Format.{headerKind}
+use Rattle.nametable.specs.Answer.{readOutcome}
+use Rattle.nametable.proofs.TableLaws.{header-refused, header-lawful, cut-table, long-table, by-entries, table-answers}
 use borrow.Author.Needs.{needs}
 use Rattle.nametable.proofs.read.Statement.{statement}
 use Rattle.nametable.proofs.read.Tie as tie
 
 pub read-spec : {M : Type 1} → statement M
-unfolding countOf
+unfolding readOutcome
 read-spec =
     tie.close
-    (tie.spec (λ c κs. search needs)
-    (λ c. let t = c .before .before .before .args .table .now in table-answers t Truncated _ (c .table-error .ensures) (empty-table t (omega arith)))
-    (λ c. search needs) (λ c κs. search needs)
-    (λ c. let t = c .before .before .before .before .before .args .table .now in table-answers t Malformed _ (c .table-error2 .ensures) (other-kind t (λ e. omega arith) (λ e. omega arith)))
+    (tie.spec (λ c κs. search needs) (λ c. search needs) (λ c. search needs)
+    (λ c. header-refused headerKind _ _ (c .before .before .header .ensures) _ (c .enum-told .given .1))
+    (λ c. let a = c .before in let h = header-lawful headerKind _ _ (a .before .before .header .ensures) (a .announced .given .1) in omega (arith, h .0 .few, h .1))
+    (λ c. let a = c .before in let h = header-lawful headerKind _ _ (a .before .before .header .ensures) (a .announced .given .1) in omega (arith, h .0 .few, h .1))
     (λ c κs. search needs)
-    (λ c. let t = c .before .before .before .before .before .before .args .table .now in table-answers t Truncated _ (c .table-error3 .ensures) (short-header t (λ e. omega arith) (omega arith) (omega arith)))
-    (λ c κs. search needs) (λ c. search needs) (λ c. search needs) (λ c κs. search needs)
-    (λ c. let n = c .before .before in let t = n .before .before .before .before .before .before .args .table .now in table-answers t Malformed _ (c .table-error4 .ensures) (no-entries t (omega arith) (omega arith) (n .number-at .ensures .0) (omega arith)))
+    (λ c. let a = c .before .before .before in let h = header-lawful headerKind _ _ (a .before .before .header .ensures) (a .announced .given .1) in table-answers _ Truncated _ (c .table-error .ensures) (cut-table _ (h .0 .is) (h .0 .long) (h .1) (omega (arith, h .0 .some, h .1)) (omega (arith, h .0 .few, h .1)) (omega arith)))
     (λ c κs. search needs)
-    (λ c. let n = c .before .before .before in let t = n .before .before .before .before .before .before .args .table .now in table-answers t Malformed _ (c .table-error5 .ensures) (many-entries t (omega arith) (omega arith) (n .number-at .ensures .0) (omega arith)))
-    (λ c κs. search needs)
-    (λ c. let n = c .before .before .before .before in let t = n .before .before .before .before .before .before .args .table .now in table-answers t Truncated _ (c .table-error6 .ensures) (cut-table t (omega arith) (omega arith) (n .number-at .ensures .0) (omega arith) (omega arith) (omega arith)))
-    (λ c κs. search needs)
-    (λ c. let n = c .before .before .before .before .before in let t = n .before .before .before .before .before .before .args .table .now in table-answers t Malformed _ (c .table-error7 .ensures) (long-table t (omega arith) (omega arith) (n .number-at .ensures .0) (omega arith) (omega arith) (omega arith)))
-    (λ c κs. search needs)
-    (λ c. let n = c .before .before .before .before .before in let t = n .before .before .before .before .before .before .args .table .now in c .judge .ensures ∙ sym (by-entries t (omega arith) (omega arith) (n .number-at .ensures .0) (omega arith) (omega arith) (omega arith))))
+    (λ c. let a = c .before .before .before .before in let h = header-lawful headerKind _ _ (a .before .before .header .ensures) (a .announced .given .1) in table-answers _ Malformed _ (c .table-error2 .ensures) (long-table _ (h .0 .is) (h .0 .long) (h .1) (omega (arith, h .0 .some, h .1)) (omega (arith, h .0 .few, h .1)) (omega arith)))
+    (λ c κs. let a = c .before .before .before in let h = header-lawful headerKind _ _ (a .before .before .header .ensures) (a .announced .given .1) in (omega arith, omega (arith, h .0 .few, h .1)))
+    (λ c. let a = c .before .before .before .before in let h = header-lawful headerKind _ _ (a .before .before .header .ensures) (a .announced .given .1) in c .judge .ensures ∙ sym (by-entries _ (h .0 .is) (h .0 .long) (h .1) (omega (arith, h .0 .some, h .1)) (omega (arith, h .0 .few, h .1)) (omega arith))))

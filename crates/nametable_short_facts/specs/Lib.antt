@@ -1,0 +1,2 @@
+-- The causes of refusal of the short form.
+pub mod Causes
