@@ -39,7 +39,7 @@ past-alike t n index capacity read past e f =
     by-lt capacity textCapacity (λ short. rw (found-no-room (readOutcome t) (countOf t) index capacity (length (entryText t index)) short))
     (λ room. rw (found-past (readOutcome t) (countOf t) index capacity (length (entryText t index)) room read (rw (← read-table t n read .counted) past)))
 
--- tables whose entries are the same bytes, in the one form and the other
+-- a short table and a long one that answer alike, each short entry standing for the long one
 same-entries : (short long : List ℕ) (n : ℕ) → shortReadOutcome short ≡ done n → readOutcome long ≡ done n
     → ((index capacity : ℕ) → shortFindOutcome short index capacity ≡ findOutcome long index capacity)
     → ((index : ℕ) → index < n → longOf (shortEntryAt short index) ≡ entryAt long index) → SameEntries short long n

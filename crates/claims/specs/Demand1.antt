@@ -228,7 +228,7 @@ pub record Demand1 : Type 0 where
       → Settles (shortFindCauses table index capacity) (length (shortEntryText table index)) (shortFindOutcome table index capacity)
   pub toShortOrder : (table : List ℕ) (capacity : ℕ) → Settles (toShortCauses table capacity) (length (short.toShort table)) (toShortOutcome table capacity)
   pub toLongOrder : (table : List ℕ) (capacity : ℕ) → Settles (toLongCauses table capacity) (length (short.toLong table)) (toLongOutcome table capacity)
-  -- to reading, one entry by index and moving in one form a table of the other is malformed, whatever follows its first byte
+  -- a table of one form is malformed to the other's reading, entry by index (given the room) and move, whatever follows its first byte
   pub otherForm : (rest : List ℕ) → OtherForm rest
   -- firmware: what is left, and what the number says
   pub write : (number : ℕ) (text label : List ℕ) → AllBelow 256 text

@@ -1,4 +1,5 @@
--- What reading a table and one entry of it answer, for every input, in the order of the refusals.
+-- What reading a table, one entry of it, a header and an entry by themselves answer, for every input,
+-- in the order of the refusals.
 use Prim.Native.Nat.{ℕ, zero, suc}
 use mathlib.Core.Bool.{not}
 use mathlib.Core.List.{List}

@@ -33,15 +33,15 @@ module _ (fewest room least : ℕ) (e : List ℕ) {n : ℕ} (judged : entryJudge
 
 -- an entry that is read by itself is judged good, so that the same holds of it
 module _ (least position : ℕ) (e : List ℕ) {n : ℕ} (read : entryRead least position e ≡ done n) where
-  entry-judged : (m : ℕ) × (entryJudged 1 labelCapacity least e ≡ done m)
+  read-judged : (m : ℕ) × (entryJudged 1 labelCapacity least e ≡ done m)
   unfolding entryRead
-  entry-judged = both-done _ _ _ read .0
+  read-judged = both-done _ _ _ read .0
 
   pub entry-decodes : (m : ℕ) × (decodeOutcome (schemeIn e) textCapacity (labelIn e) ≡ done m)
-  entry-decodes = judged-decodes 1 labelCapacity least e (entry-judged .1)
+  entry-decodes = judged-decodes 1 labelCapacity least e (read-judged .1)
 
   pub entry-short : length (textIn e) ≤ textCapacity
-  entry-short = judged-short 1 labelCapacity least e (entry-judged .1)
+  entry-short = judged-short 1 labelCapacity least e (read-judged .1)
 
   -- it counts the points of its text, for which there is room
   entry-fits : (capacity : ℕ) → ltb capacity textCapacity ≡ false → (n ≡ length (textIn e)) × (n ≤ capacity)

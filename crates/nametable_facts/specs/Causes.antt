@@ -1,5 +1,5 @@
--- The causes of refusal of a table, of one entry of it, and of a list to be written, each by itself,
--- in order.
+-- The causes of refusal of a table, of one entry of it, of an entry without its table, and of a list
+-- to be written, each by itself, in order.
 use Prim.Native.Nat.{ℕ, zero, suc, _+_, _-_, _≤_, _<_}
 use mathlib.Core.Path.{_≡_}
 use mathlib.Core.Logic.{_⊎_}

@@ -80,7 +80,7 @@ kind-allows n =
     (λ a b. same-range 17 32 1 63 n (λ l h. (a, b)) (λ h. inl (omega arith)) (λ h. absurd (omega arith)))
     (λ a. same-range 33 63 1 63 n (λ l h. (a, h)) (λ h. inl (omega arith)) (λ h. inr h))
 
--- a kind allows no other bytes
+-- a kind that is not the one for so many bytes does not allow them
 pub other-kind-refuses : (kind n : ℕ) → (kindFor n ≡ kind → ⊥) → within (fewestOf kind) (roomOf kind) n ≡ false
 unfolding roomOf fewestOf kindFor
 other-kind-refuses kind n =
@@ -144,7 +144,7 @@ module _ (least : ℕ) (e : List ℕ) where
       (λ w. rw (long-filled e (roomOf (kindOf e)) long (room-small (kindOf e)) (within-high (fewestOf (kindOf e)) (roomOf (kindOf e)) n (allowed ∙ w))))
       (λ w. stop-if 14 0 _ _ (ap not w) ∙ sym (stop-if 14 0 _ _ (ap not w)))))
 
--- where the entry that begins at an index of a table ends
+-- where the entry that begins at a byte of a table ends
 module _ (t : List ℕ) (start : ℕ) {kind room : ℕ} (is : kind ≡ at t start) (has : room ≡ roomOf kind) where
   pub length-here : shortLength (kindOf (drop start t)) ≡ shortLabelStart + room
   unfolding shortLength kindOf

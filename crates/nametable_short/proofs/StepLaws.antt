@@ -38,7 +38,7 @@ module _ (least position : ℕ) (e : List ℕ) {kind : ℕ} (is : kind ≡ kindF
   unfolding shortEntryRead entryRead kindOf
   read-as-long k long capacity room = lone-read least position capacity (longOf e) room (long-size e) ∙ rw (long-judged least e (sym is ∙ k) long)
 
--- the entry that begins at an index of the table, with those after it, test by test
+-- the entry that begins at a byte of the table, with those after it, test by test
 module _ (t : List ℕ) (start least index : ℕ) where
   abbrev bytes : List ℕ
   bytes = drop start t
@@ -55,9 +55,9 @@ module _ (t : List ℕ) (start least index : ℕ) where
     present : length bytes ≡ 0 → ⊥
     present e = some (omega (arith, length-drop start t))
 
-    pub unknown-kind : room ≡ 0 → Stepped t start least index (Error Malformed index)
+    pub no-short-kind : room ≡ 0 → Stepped t start least index (Error Malformed index)
     unfolding shortEntriesJudged wholeTests
-    unknown-kind h left total = pass-equal 13 0 _ _ 0 present ∙ stop-equal 14 index _ _ 0 (ap roomOf kind-here ∙ sym has ∙ h)
+    no-short-kind h left total = pass-equal 13 0 _ _ 0 present ∙ stop-equal 14 index _ _ 0 (ap roomOf kind-here ∙ sym has ∙ h)
 
     module _ (known : room ≡ 0 → ⊥) where
       by-whole : (left total : ℕ) → shortEntriesJudged index least (suc left) bytes total ≡
@@ -108,12 +108,12 @@ module _ (t : List ℕ) (count i least start : ℕ) where
     left-is : left (count - i) ≡ left (suc (count - suc i))
     left-is = let l : count - i ≡ suc (count - suc i) = omega arith in rw l
 
-    pub turn-stops : (step : Step) → Stepped t start least i step → {code : ErrorCode} {position : ℕ} → step ≡ Error code position → left (count - i) ≡ refused (numberOf code) position
-    turn-stops step s told = left-is ∙ (rw told at s) _ _
+    pub short-turn-stops : (step : Step) → Stepped t start least i step → {code : ErrorCode} {position : ℕ} → step ≡ Error code position → left (count - i) ≡ refused (numberOf code) position
+    short-turn-stops step s told = left-is ∙ (rw told at s) _ _
 
-    pub turn-goes : (step : Step) → Stepped t start least i step → {reader end : ℕ} → step ≡ Next reader end
+    pub short-turn-goes : (step : Step) → Stepped t start least i step → {reader end : ℕ} → step ≡ Next reader end
         → (end ≤ length t) × (shortEntriesJudged (i + 1) (reader + 1) (count - (i + 1)) (drop end t) count ≡ left (count - i))
-    turn-goes step s {reader} {end} told = ((rw told at s) .1, rw (add-one i, add-one reader) (sym (left-is ∙ (rw told at s) .0 _ _)))
+    short-turn-goes step s {reader} {end} told = ((rw told at s) .1, rw (add-one i, add-one reader) (sym (left-is ∙ (rw told at s) .0 _ _)))
 
   pub bytes-left-over : count ≤ i → start < length t → left (count - i) ≡ refused 14 0
   unfolding shortEntriesJudged

@@ -15,9 +15,9 @@ use Rattle.nametable_short.specs.Internal.{shortEntryRead, EndsAt, Begin
 use Rattle.nametable_short.proofs.EntryLaws.{first-size}
 
 -- with a lawful header the entries decide
-pub by-entries : (t : List ℕ) → Header shortHeaderKind t → {n : ℕ} → n ≡ countOf t → shortReadOutcome t ≡ shortEntriesJudged 0 0 n (drop headerLength t) n
+pub short-by-entries : (t : List ℕ) → Header shortHeaderKind t → {n : ℕ} → n ≡ countOf t → shortReadOutcome t ≡ shortEntriesJudged 0 0 n (drop headerLength t) n
 unfolding shortReadOutcome
-by-entries t h is = header-passed shortHeaderKind t _ (h .is) (h .long) is (rw is (h .some)) (rw is (h .few)) ∙ rw is
+short-by-entries t h is = header-passed shortHeaderKind t _ (h .is) (h .long) is (rw is (h .some)) (rw is (h .few)) ∙ rw is
 
 -- bytes that begin with an entry of a known kind, which is whole, and good for the least reader
 -- number

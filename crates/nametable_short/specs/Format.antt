@@ -48,7 +48,7 @@ kindFor bytes = pick {A = ℕ} (leb bytes 16) 0x51 (pick {A = ℕ} (leb bytes 32
 unfoldable pub shortLength : (kind : ℕ) → ℕ
 shortLength kind = shortLabelStart + roomOf kind
 
--- the entry that some bytes begin with, which is as long as its kind says
+-- the entry that some bytes begin with, which is as long as its kind says, or as they are
 unfoldable pub firstEntry : List ℕ → List ℕ
 firstEntry bytes = take (shortLength (kindOf bytes)) bytes
 

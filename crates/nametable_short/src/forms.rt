@@ -104,7 +104,8 @@ fn put_fitted(bytes: &[u8], start: usize, room: &mut [u8])
 {
     let mut i = 0;
     while i < room.len() {
-        room[i] = byte_at(bytes, start + i);
+        let byte = byte_at(bytes, start + i);
+        room[i] = byte;
         i += 1;
     }
 }

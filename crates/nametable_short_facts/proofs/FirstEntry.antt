@@ -22,13 +22,13 @@ module _ (e rest : List ℕ) (long : length e ≡ shortLength (kindOf e)) where
   unfolding readerOf numberAt shortLength
   reader-before = rw (List·getD-append e rest 0 1 (omega (arith, long)), List·getD-append e rest 0 2 (omega (arith, long)))
 
-  pub first-before : firstEntry (e ++ rest) ≡ e
+  pub first-appended : firstEntry (e ++ rest) ≡ e
   unfolding firstEntry
-  first-before = rw kind-before (take-at e rest (shortLength (kindOf e)) long)
+  first-appended = rw kind-before (take-at e rest (shortLength (kindOf e)) long)
 
-  pub after-before : afterFirst (e ++ rest) ≡ rest
+  pub after-appended : afterFirst (e ++ rest) ≡ rest
   unfolding afterFirst
-  after-before = rw kind-before (drop-at e rest (shortLength (kindOf e)) long)
+  after-appended = rw kind-before (drop-at e rest (shortLength (kindOf e)) long)
 
 -- some bytes are their first entry and those after it
 pub first-then : (bytes : List ℕ) → firstEntry bytes ++ afterFirst bytes ≡ bytes
@@ -55,6 +55,6 @@ module _ (index least left total : ℕ) where
       let g : GoodFrom least (e ++ rest) = record {
         known = rw kind (w .known);
         whole = rw kind (omega (arith, w .long, length-append e rest));
-        judged = rw (first-before e rest (w .long)) (w .judged);
+        judged = rw (first-appended e rest (w .long)) (w .judged);
       } in
-      first-passed index least left (e ++ rest) total g ∙ rw (reader-before e rest (w .long), after-before e rest (w .long))
+      first-passed index least left (e ++ rest) total g ∙ rw (reader-before e rest (w .long), after-appended e rest (w .long))

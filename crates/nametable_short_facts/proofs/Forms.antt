@@ -94,9 +94,9 @@ take-fitted (suc m) (suc n) [] h g = absurd (omega arith)
 take-fitted (suc m) (suc n) (b ∷ bytes) h g = ap (λ (l : List ℕ). b ∷ l) (take-fitted m n bytes (le-of-suc-le-suc h) (le-of-suc-le-suc g))
 
 -- the label of the long entry that a short one stands for
-pub long-label : (e : List ℕ) → length e ≡ shortLength (kindOf e) → at e shortLengthStart ≤ roomOf (kindOf e) → labelIn (longOf e) ≡ shortLabelIn e
+pub long-entry-label : (e : List ℕ) → length e ≡ shortLength (kindOf e) → at e shortLengthStart ≤ roomOf (kindOf e) → labelIn (longOf e) ≡ shortLabelIn e
 unfolding labelIn lengthOf longOf shortLength
-long-label e long h =
+long-entry-label e long h =
     take-fitted (at e shortLengthStart) labelCapacity (drop shortLabelStart e) (omega (arith, room-small (kindOf e))) (omega (arith, length-drop shortLabelStart e))
 
 -- the kind for what is named names the same
@@ -121,10 +121,10 @@ module _ (least : ℕ) (e : List ℕ) (long : length e ≡ shortLength (kindOf e
       let named : kindNames (kindOf (longOf e)) ≡ ownNumberNames (at e schemeStart) = kind-named (ownNumberNames (at e schemeStart)) in
       rw named (number-back (at e schemeStart) (rw named at (judged-read least (longOf e) long-good .known)))
 
-  pub label-again : labelIn (longOf e) ≡ shortLabelIn e
-  label-again =
+  pub own-label-bytes : labelIn (longOf e) ≡ shortLabelIn e
+  own-label-bytes =
       let short : at e shortLengthStart ≤ labelCapacity = rw (long-length e) at (judged-read least (longOf e) long-good .short) in
-      long-label e long (rw kind-needed at (kind-room (at e shortLengthStart) short))
+      long-entry-label e long (rw kind-needed at (kind-room (at e shortLengthStart) short))
 
   pub short-again : shortOf (longOf e) ≡ e
   unfolding shortOf longOf lengthOf kindOf shortLength tabulate

@@ -23,8 +23,8 @@ use Rattle.nametable_short.proofs.EntryLaws.{room-small, long-reader, long-size
 use Rattle.nametable_short.proofs.MoveLaws.{long-entries-size}
 use Rattle.nametable_short.proofs.TableLaws.{ShortTable, short-read-table, short-entries-read}
 use Rattle.nametable_short_facts.specs.Causes.{shortLabelIn}
-use Rattle.nametable_short_facts.proofs.FirstEntry.{first-before, after-before, first-then, entry-taken, entry-put}
-use Rattle.nametable_short_facts.proofs.Forms.{heads, number-again, label-again, short-long, short-reader, long-again, short-whole, short-again, long-good}
+use Rattle.nametable_short_facts.proofs.FirstEntry.{first-appended, after-appended, first-then, entry-taken, entry-put}
+use Rattle.nametable_short_facts.proofs.Forms.{heads, number-again, own-label-bytes, short-long, short-reader, long-again, short-whole, short-again, long-good}
 
 -- long entries that are judged good: in the short form they are, and back they are the same
 entries-short : (index least left : ℕ) (bytes : List ℕ) (total : ℕ) {n : ℕ} → length bytes ≡ entryLength * left → entriesJudged index least left bytes total ≡ done n
@@ -38,17 +38,17 @@ entries-short index least (suc left) bytes total long e =
     let whole : length f ≡ entryLength = length-take-le entryLength bytes (omega arith) in
     let later = entries-short (suc index) (suc (readerOf bytes)) left (drop entryLength bytes) total (length-drop entryLength bytes ∙ omega arith) (b .1) in (
       entry-put index least left total (shortOf f) rest (short-whole least f whole (b .0 .1)) ∙ rw (short-reader f, reader-part bytes) (later .0),
-      rw (first-before (shortOf f) rest (short-long f), after-before (shortOf f) rest (short-long f), long-again least f whole (b .0 .1), later .1) (take-append-drop entryLength bytes),
+      rw (first-appended (shortOf f) rest (short-long f), after-appended (shortOf f) rest (short-long f), long-again least f whole (b .0 .1), later .1) (take-append-drop entryLength bytes),
     )
 
 -- the short entry at an index is that of the long one
 shorts-at : (left : ℕ) (bytes : List ℕ) (k : ℕ) → k < left → firstEntry (fromEntry k (shortEntries left bytes)) ≡ shortOf (take entryLength (drop (entryLength * k) bytes))
 unfolding shortEntries fromEntry
 shorts-at zero bytes k h = absurd (omega arith)
-shorts-at (suc left) bytes zero h = first-before (shortOf (take entryLength bytes)) _ (short-long (take entryLength bytes))
+shorts-at (suc left) bytes zero h = first-appended (shortOf (take entryLength bytes)) _ (short-long (take entryLength bytes))
 shorts-at (suc left) bytes (suc k) h =
     let d : 67 * suc k ≡ 67 + 67 * k = omega arith in
-    rw (after-before (shortOf (take entryLength bytes)) (shortEntries left (drop entryLength bytes)) (short-long (take entryLength bytes)), d, ← drop-drop (67 * k) 67 bytes)
+    rw (after-appended (shortOf (take entryLength bytes)) (shortEntries left (drop entryLength bytes)) (short-long (take entryLength bytes)), d, ← drop-drop (67 * k) 67 bytes)
     (shorts-at left (drop entryLength bytes) k (omega arith))
 
 -- short entries that are judged good: in the long form they are, and back they are the same
@@ -166,7 +166,7 @@ module _ (t : List ℕ) (n : ℕ) (read : shortReadOutcome t ≡ done n) where
       rw (long-reads, read, long-count t, ← short-table .counted)
       (found-same (done n) n index capacity _ _ (λ h. ap (λ (e : List ℕ). length (textIn e)) (long-entry index h)))
 
-  -- what the short entry at an index says of itself: its reader number, its scheme and its label
+  -- what the short entry at an index says of itself: its scheme and its label
   module _ (index : ℕ) (inside : index < n) where
     abbrev entry : List ℕ
     entry = shortEntryAt t index
@@ -183,7 +183,7 @@ module _ (t : List ℕ) (n : ℕ) (read : shortReadOutcome t ≡ done n) where
     own-scheme = sym (number-again 0 entry entry-sized (entry-good .1))
 
     pub own-label : shortLabelIn entry ≡ labelIn (longOf entry)
-    own-label = sym (label-again 0 entry entry-sized (entry-good .1))
+    own-label = sym (own-label-bytes 0 entry entry-sized (entry-good .1))
 
   pub short-longest : length t ≤ 34003
   short-longest = omega (arith, most-short 0 0 n (drop headerLength t) n (short-entries-read t n read), length-drop headerLength t, short-table .header .few, short-table .counted)

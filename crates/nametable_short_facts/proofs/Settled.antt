@@ -27,7 +27,7 @@ use Rattle.nametable_facts.proofs.Settled.{outside-iff, some-not, unknown-schem
 use Rattle.nametable_short.specs.Format.{shortHeaderKind, schemeStart, shortLengthStart, shortLabelStart, roomOf, fewestOf, shortLength, firstEntry, afterFirst, longOf}
 use Rattle.nametable_short.specs.Answer.{wholeTests, shortEntryJudged, shortEntriesJudged, shortReadOutcome, shortEntryText, shortFindOutcome, toShort, toLong, moveOutcome, toShortOutcome, toLongOutcome}
 use Rattle.nametable_short.proofs.EntryLaws.{by-kind, room-small, long-length, long-reader, long-at, first-kind, first-size}
-use Rattle.nametable_short_facts.proofs.Forms.{kind-named, long-label}
+use Rattle.nametable_short_facts.proofs.Forms.{kind-named, long-entry-label}
 use Rattle.nametable_short_facts.specs.Causes.{NoShortKind, RoomNotFilled, shortLabelIn, shortEntryCauses, shortEntriesCauses, shortTableCauses, shortFindCauses, moveCauses, toShortCauses, toLongCauses}
 
 -- two tests with the same refusal may change places
@@ -126,7 +126,7 @@ short-entry-settled least e long some =
     (λ _. settle-whole _ 14 (outside-iff 1 (roomOf kind) n)
     (λ inside. settle-whole _ 14 (too-large-iff kind n some (within-low 1 (roomOf kind) n (not-false _ inside)))
     (λ _. settle-whole _ 14 (long-unfilled-iff e)
-    (λ _. rw (long-label e long (within-high 1 (roomOf kind) n (not-false _ inside)))
+    (λ _. rw (long-entry-label e long (within-high 1 (roomOf kind) n (not-false _ inside)))
     (settle-andThen (λ _. 0) _ [] _ _ _ _ (decode-settled (codecOf s) (faithful s) textCapacity (shortLabelIn e) (omega arith)) (λ _ _. settle-done (readerOf e)))))))))
 
 -- the entries in turn, the table, and one entry by index

@@ -1,5 +1,5 @@
--- The directory's numbers, kinds and letters are distinct, so each is one scheme's own; and which
--- values name no scheme.
+-- The directory's numbers, kinds and letters are distinct, so each is one scheme's own; its numbers
+-- are bytes; and which values name no scheme.
 use Prim.Native.Nat.{ℕ, _<_}
 use mathlib.Core.Path.{_≡_, refl, sym, ap, _∙_}
 use mathlib.Core.Bool.{Bool, true, not}

@@ -4,7 +4,7 @@ use borrow.Author.Needs.{needs}
 use Rattle.nametable.proofs.TableLaws.{header-refused, header-lawful}
 use Rattle.nametable_short.specs.Format.{shortHeaderKind}
 use Rattle.nametable_short.specs.Answer.{shortReadOutcome}
-use Rattle.nametable_short.proofs.TableLaws.{by-entries}
+use Rattle.nametable_short.proofs.TableLaws.{short-by-entries}
 use Rattle.nametable_short.proofs.read.Statement.{statement}
 use Rattle.nametable_short.proofs.read.Tie as tie
 
@@ -15,4 +15,4 @@ read-spec =
     (tie.spec (λ c κs. search needs) (λ c. search needs) (λ c. search needs)
     (λ c. header-refused shortHeaderKind _ _ (c .before .before .header .ensures) _ (c .enum-told .given .1))
     (λ c κs. let a = c .before in header-lawful shortHeaderKind _ _ (a .before .before .header .ensures) (a .announced .given .1) .0 .long)
-    (λ c. let a = c .before .before in let h = header-lawful shortHeaderKind _ _ (a .before .before .header .ensures) (a .announced .given .1) in c .judge .ensures ∙ sym (by-entries _ (h .0) (h .1))))
+    (λ c. let a = c .before .before in let h = header-lawful shortHeaderKind _ _ (a .before .before .header .ensures) (a .announced .given .1) in c .judge .ensures ∙ sym (short-by-entries _ (h .0) (h .1))))

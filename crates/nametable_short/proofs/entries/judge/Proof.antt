@@ -7,7 +7,7 @@ use borrow.Author.Needs.{needs}
 use Rattle.nametable_format.specs.Format.{headerLength}
 use Rattle.nametable.specs.Answer.{tableOutcome}
 use Rattle.nametable_short.specs.Answer.{shortEntriesJudged}
-use Rattle.nametable_short.proofs.StepLaws.{turn-stops, turn-goes, bytes-left-over, nothing-left-over}
+use Rattle.nametable_short.proofs.StepLaws.{short-turn-stops, short-turn-goes, bytes-left-over, nothing-left-over}
 use Rattle.nametable_short.proofs.entries.judge.Statement.{statement}
 use Rattle.nametable_short.proofs.entries.judge.Tie as tie
 
@@ -26,8 +26,8 @@ judge-spec =
     (tie.spec Inv-loop μ-loop
     (λ c. let n = c .before .args .count in let z : n - 0 ≡ n = omega arith in (omega arith, omega arith, c .before .pre, rw z))
     (λ c κs. search needs) (λ c. search needs)
-    (λ c. let j = c .before .before .before in let l = j .before .before in sym (turn-stops _ _ _ _ _ (j .before .loop-test .taken) _ (j .judge-next .ensures) (c .before .step .given .1)) ∙ l .loop .inv .3)
+    (λ c. let j = c .before .before .before in let l = j .before .before in sym (short-turn-stops _ _ _ _ _ (j .before .loop-test .taken) _ (j .judge-next .ensures) (c .before .step .given .1)) ∙ l .loop .inv .3)
     (λ c. search needs) (λ c. search needs) (λ c. search needs) (λ c. search needs) (λ c. search needs)
-    (λ c. let j = c .before .before .before in let l = j .before .before in let goes = turn-goes _ _ _ _ _ (j .before .loop-test .taken) _ (j .judge-next .ensures) (c .before .step2 .given .1) in (omega arith, omega arith, goes .0, goes .1 ∙ l .loop .inv .3))
+    (λ c. let j = c .before .before .before in let l = j .before .before in let goes = short-turn-goes _ _ _ _ _ (j .before .loop-test .taken) _ (j .judge-next .ensures) (c .before .step2 .given .1) in (omega arith, omega arith, goes .0, goes .1 ∙ l .loop .inv .3))
     (λ c. let l = c .before .before in sym (bytes-left-over _ _ _ _ _ (c .before .loop-test .left) (c .if1 .taken)) ∙ l .loop .inv .3)
     (λ c. let l = c .before .before in sym (nothing-left-over _ _ _ _ _ (c .before .loop-test .left) (c .if1 .left)) ∙ l .loop .inv .3))

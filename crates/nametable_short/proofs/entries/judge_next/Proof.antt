@@ -1,7 +1,7 @@
 -- `entries::judge_next` meets its contract: each test answers in its turn, then the entry.
 use mathlib.Core.Path.{refl}
 use borrow.Author.Needs.{needs}
-use Rattle.nametable_short.proofs.StepLaws.{no-byte-left, unknown-kind, not-whole, part-whole, step-refused, step-good}
+use Rattle.nametable_short.proofs.StepLaws.{no-byte-left, no-short-kind, not-whole, part-whole, step-refused, step-good}
 use Rattle.nametable_short.proofs.entries.judge_next.Statement.{statement}
 use Rattle.nametable_short.proofs.entries.judge_next.Tie as tie
 
@@ -36,7 +36,7 @@ judge-next-spec =
     tie.close
     (tie.spec (λ c. no-byte-left _ _ _ _ (c .if1 .taken))
     (λ c. search needs) (λ c κs. search needs)
-    (λ c. let r = c .before in let s = r .before .before .before .before in unknown-kind (s .args .table .now) (s .args .start) _ _ (s .pre) (λ e. r .before .before .if1 .left e) refl (r .room-of .ensures .0) (c .if2 .taken))
+    (λ c. let r = c .before in let s = r .before .before .before .before in no-short-kind (s .args .table .now) (s .args .start) _ _ (s .pre) (λ e. r .before .before .if1 .left e) refl (r .room-of .ensures .0) (c .if2 .taken))
     (λ c. search needs) (λ c. search needs)
     (λ c. let k = c .before in let r = k .before in let s = r .before .before .before .before in not-whole (s .args .table .now) (s .args .start) _ _ (s .pre) (λ e. r .before .before .if1 .left e) refl (r .room-of .ensures .0) (λ e. k .if2 .left e) (c .if3 .taken))
     (λ c. search needs) (λ c. search needs) (λ c. search needs) (λ c. search needs) (λ c. search needs)
