@@ -15,10 +15,10 @@ use Rattle.basis.proofs.Parts.{front-is, front-fits}
 use Rattle.base32.specs.Alphabet.{brace, valueOf}
 use Rattle.copying.proofs.Bytes.{spelled-length}
 use Rattle.copying.specs.Symbols.{isFor, areFor}
-use Rattle.brace.specs.Signature.{signature, isSigned}
-use Rattle.brace.specs.Encoding.{symbolsOf}
+use Rattle.brace_format.specs.Signature.{signature, isSigned}
+use Rattle.brace_symbols.specs.Encoding.{symbolsOf}
 use Rattle.brace.specs.Answer.{encodeOutcome, isDone}
-use Rattle.brace.proofs.Labels.{encoded-count}
+use Rattle.brace_symbols.proofs.Labels.{encoded-count}
 
 -- one symbol: a coded one by the value of the byte, a copied one by the byte
 module _ (s b : ℕ) where

@@ -5,20 +5,22 @@ use mathlib.Core.Bool.{Bool, true, false, not}
 use mathlib.Core.List.{List, _++_}
 use lib.Dec.{ltb}
 use lib.ListN.{length, take, drop}
+use lib.Seq.{length-take-le}
 use native.Mathlib.Omega.{arith}
 use Rattle.basis.specs.Tests.{both}
 use Rattle.basis.specs.Rows.{at}
-use Rattle.basis.specs.Outcome.{done, refused, refusedIf}
+use Rattle.basis.specs.Outcome.{Outcome, done, refused, refusedIf, bufferAfter}
 use Rattle.basis.proofs.Tests.{first-le, none-iff}
 use Rattle.basis.proofs.Parts.{front-is, front-fits}
-use Rattle.basis.proofs.Outcome.{pass-if, stop-given, pass-given}
+use Rattle.basis.proofs.Outcome.{pass-if, pass-below, stop-given, pass-given, done-count, done-not-refused}
 use Rattle.ascii.specs.Ldh.{isLdh, isAllLdh, hasEdgeHyphen}
 use Rattle.labels.proofs.FirstTests.{LabelPassed, label-passes}
 use Rattle.base32.specs.Alphabet.{brace}
 use Rattle.copying.specs.Symbols.{areFor}
-use Rattle.brace.specs.Signature.{isSigned}
-use Rattle.brace.specs.Encoding.{symbolsOf}
-use Rattle.brace.specs.Decoding.{bodyText, textOf}
+use Rattle.brace_format.specs.Signature.{isSigned}
+use Rattle.brace_symbols.specs.Encoding.{symbolsOf}
+use Rattle.brace_text.specs.Decoding.{bodyText, textOf}
+use Rattle.brace_text.specs.Answer.{bodyOutcome}
 use Rattle.brace.specs.Answer.{isDone, isLawful, firstNotLdh, encodeOutcome, decodeOutcome}
 use Rattle.brace.proofs.Plain.{unsigned-text, plain-lawful}
 
@@ -36,6 +38,24 @@ unfolding firstNotLdh isAllLdh
 all-ldh l bad e h =
     let k : firstNotLdh l ≡ length l = omega (arith, first-le (length l) (λ i. not (isLdh (at l i)))) in
     none-iff (length l) (λ i. isLdh (at l i)) .0 k
+
+-- 63 units are room for what is before the signature
+pub body-room : (l : List ℕ) → length l ≤ 63 → length (take (length l - 4) l) ≤ 63
+body-room l h = omega (arith, length-take-le (length l - 4) l (omega arith))
+
+-- the text of a body is read, given the room
+module _ (capacity : ℕ) (body old now : List ℕ) (given : Outcome)
+    (is : (given ≡ bodyOutcome capacity body) × (now ≡ bufferAfter (bodyOutcome capacity body) (bodyText body) old)) (room : length body ≤ capacity) where
+  reads : bodyOutcome capacity body ≡ done (length (bodyText body))
+  unfolding bodyOutcome
+  reads = pass-below 1 0 _ capacity (length body) room
+
+  pub body-done : (n : ℕ) → given ≡ done n → (n ≡ length (bodyText body)) × (now ≡ bodyText body ++ drop (length (bodyText body)) old)
+  unfolding bufferAfter
+  body-done n e = (done-count (sym (is .0) ∙ e) reads, is .1 ∙ rw reads)
+
+  pub body-never : (number position : ℕ) → given ≡ refused number position → ⊥
+  body-never number position e = done-not-refused reads (sym (is .0) ∙ e)
 
 -- the text of a label with the signature, as it was read to the front of a buffer
 module _ (l : List ℕ) (signed : isSigned l ≡ true) where

@@ -18,9 +18,9 @@ use Rattle.utf16.proofs.Surrogates.{unpaired-plain}
 use Rattle.base32.specs.Alphabet.{brace}
 use Rattle.copying.specs.Symbols.{capital, isFor, areFor}
 use Rattle.copying.proofs.Bytes.{ldh-from, ldh-bytes}
-use Rattle.brace.specs.Signature.{isSigned}
-use Rattle.brace.specs.Encoding.{isPlain, symbolsOf, labelOf}
-use Rattle.brace.specs.Decoding.{textOf}
+use Rattle.brace_format.specs.Signature.{isSigned}
+use Rattle.brace_symbols.specs.Encoding.{isPlain, symbolsOf, labelOf}
+use Rattle.brace_text.specs.Decoding.{textOf}
 use Rattle.brace.specs.Answer.{isTooLong, encodeOutcome, isDone, isLawful}
 
 -- LDH is below 123

@@ -17,11 +17,11 @@ use Rattle.utf16.proofs.Refusals.{all-done, text-iff}
 use Rattle.utf16.proofs.RoundTrip.{some-toUnits, text-paired}
 use Rattle.labels.specs.Tests.{labelTests}
 use Rattle.labels.proofs.FirstTests.{TextPassed}
-use Rattle.brace.specs.Decoding.{textOf}
+use Rattle.brace_text.specs.Decoding.{textOf}
 use Rattle.brace.specs.Answer.{isTooLong, isDone, isLawful, encodeOutcome, decodeOutcome}
 use Rattle.brace.specs.Points as points
-use Rattle.brace.proofs.Edges.{label-edges}
-use Rattle.brace.proofs.Labels.{either-false}
+use Rattle.brace_symbols.proofs.Edges.{label-edges}
+use Rattle.brace_symbols.proofs.Labels.{either-false}
 
 -- no unit of a text is an unpaired surrogate
 pub text-unpaired : (t : List ℕ) → ltb (firstNotPoint t) (length t) ≡ false → ltb (firstUnpaired (toUnits t)) (length (toUnits t)) ≡ false

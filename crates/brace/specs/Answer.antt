@@ -11,23 +11,11 @@ use Rattle.utf16.specs.Units.{firstUnpaired}
 use Rattle.labels.specs.Tests.{labelTests}
 use Rattle.base32.specs.Alphabet.{brace}
 use Rattle.copying.specs.Symbols.{areFor}
-use Rattle.brace.specs.Signature.{isSigned}
-use Rattle.brace.specs.Encoding.{symbolsOf, labelOf}
-use Rattle.brace.specs.Decoding.{textOf}
-
--- more than 63 units, or a label of over 63 bytes
-unfoldable pub isTooLong : List ℕ → Bool
-isTooLong t = ltb 63 (length t) || ltb 63 (length (labelOf t))
-
--- encoding a text into a buffer of so many bytes: 1, 2, 10, 5, 3
-unfoldable pub encodeOutcome : ℕ → List ℕ → Outcome
-encodeOutcome capacity t =
-    refusedIf (ltb capacity 63) 1 0
-    (refusedIf (eqb (length t) 0) 2 0
-    (refusedIf (ltb (firstUnpaired t) (length t)) 10 (firstUnpaired t)
-    (refusedIf (hasEdgeHyphen (labelOf t)) 5 0
-    (refusedIf (isTooLong t) 3 0
-    (done (length (labelOf t)))))))
+use Rattle.brace_format.specs.Signature.{isSigned}
+use Rattle.brace_symbols.specs.Encoding.{symbolsOf, labelOf}
+use Rattle.brace_text.specs.Decoding.{textOf}
+-- encoding a text answers what writing its symbols does
+unfoldable pub use Rattle.brace_symbols.specs.Answer.{isTooLong, encodeOutcome}
 
 -- an outcome is done
 unfoldable pub isDone : Outcome → Bool

@@ -1,9 +1,3 @@
--- BRACE: the signature, the styles and the choice among them, encoding, decoding, and what both functions answer.
-pub mod Signature
-pub mod Style
-pub mod Choice
-pub mod Encoding
-pub mod Decoding
+-- What encoding and decoding answer, for units and for points.
 pub mod Answer
 pub mod Points
-pub mod Internal

@@ -5,8 +5,8 @@ use lib.ListN.{length}
 use Rattle.basis.specs.Outcome.{Outcome, done, andThen}
 use Rattle.utf16.specs.Units.{toUnits, toPoints}
 use Rattle.labels.specs.Tests.{textTests}
-use Rattle.brace.specs.Encoding as encoding
-use Rattle.brace.specs.Decoding as decoding
+use Rattle.brace_symbols.specs.Encoding as encoding
+use Rattle.brace_text.specs.Decoding as decoding
 use Rattle.brace.specs.Answer as answer
 
 -- the label of a row of points: that of its units

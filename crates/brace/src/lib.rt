@@ -1,12 +1,8 @@
 // BRACE: encoding a text as a label, and decoding a label.
 mod bytes;
-mod choice;
 mod decoding;
-mod encoding;
 pub mod points;
-mod quintets;
 mod signature;
-pub mod style;
 
 use basis::ByteCount;
 use basis::BytesAnswer;
@@ -17,8 +13,8 @@ ghost use mathlib.Core.Path.{_≡_};
 ghost use lib.ListN.{length};
 ghost use Rattle.basis.specs.Outcome.{bytesOutcome, bufferAfter};
 ghost use Rattle.utf16.specs.Answer.{unitsOutcome};
-ghost use Rattle.brace.specs.Encoding.{labelOf};
-ghost use Rattle.brace.specs.Decoding.{textOf};
+ghost use Rattle.brace_symbols.specs.Encoding.{labelOf};
+ghost use Rattle.brace_text.specs.Decoding.{textOf};
 ghost use Rattle.brace.specs.Answer.{encodeOutcome, decodeOutcome};
 
 // Writes the label of a text.
@@ -30,7 +26,7 @@ pub fn encode(units: &[u16], label: &mut [u8]) -> BytesAnswer
         return basis::bytes_error(ErrorCode::Capacity, 0);
     }
     let mut symbols = [0u8; 63];
-    let answer = encoding::put_symbols(units, &mut symbols);
+    let answer = brace_symbols::put_symbols(units, &mut symbols);
     match answer {
         BytesAnswer::Error { code, position } => basis::bytes_error(code, position),
         BytesAnswer::Bytes(count) => {

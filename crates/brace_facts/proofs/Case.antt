@@ -16,11 +16,11 @@ use Rattle.copying.specs.Symbols.{byteOf, bytesOf, capital, isFor, areFor, quin
 use Rattle.copying.specs.declared.Mode.{Mode}
 use Rattle.copying.specs.Modes.{copyingAfter, isCopied, isCoded, isSecond, nextMode}
 use Rattle.copying.proofs.Case.{copying-small, drop-small, folded, head-number-small, ldh-same, letter-folded, mode-small, other-small, quintet-small, quintets-folded, switch-folded, take-small, value-small}
-use Rattle.brace.specs.Signature.{signature, isSigned}
-use Rattle.brace.specs.declared.style.Style.{Style}
-use Rattle.brace.specs.Choice.{codesOf, styleOf}
-use Rattle.brace.specs.Encoding.{ahead, codeQuintets, unitSymbols, outAfter, symbolsFrom, bodyOf, isPlain, symbolsOf, labelOf}
-use Rattle.brace.specs.Decoding.{nextCount, nextValue, unitTaken, isWhole, adds, textFrom, headLength, textBy, kindOf, bodyText, textOf}
+use Rattle.brace_format.specs.Signature.{signature, isSigned}
+use Rattle.brace_format.specs.declared.style.Style.{Style}
+use Rattle.brace_choice.specs.Choice.{codesOf, styleOf}
+use Rattle.brace_symbols.specs.Encoding.{ahead, codeQuintets, unitSymbols, outAfter, symbolsFrom, bodyOf, isPlain, symbolsOf, labelOf}
+use Rattle.brace_text.specs.Decoding.{nextCount, nextValue, unitTaken, isWhole, adds, textFrom, headLength, textBy, kindOf, bodyText, textOf}
 use Rattle.brace_facts.proofs.RoundTrip.{plain-ldh}
 
 -- reading: a byte and its small form do the same, and add the same but for case

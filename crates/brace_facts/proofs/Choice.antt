@@ -13,9 +13,9 @@ use native.Mathlib.Omega.{arith}
 use Rattle.basis.specs.Tests.{everyIn, pick, both}
 use Rattle.basis.specs.Rows.{at}
 use Rattle.basis.proofs.Tests.{cases, both-left, both-right, from-first, at-each, each-at, true-not-false}
-use Rattle.brace.specs.Choice.{styleFor, mixedOrNoRow, noRowCost, mixedCost, isBetter, bestOf}
-use Rattle.brace.specs.declared.style.Style.the-variants.{Mixed, HalfRow, Row, NoRow}
-use Rattle.brace.specs.declared.style.Style.{Style}
+use Rattle.brace_choice.specs.Choice.{styleFor, mixedOrNoRow, noRowCost, mixedCost, isBetter, bestOf}
+use Rattle.brace_format.specs.declared.style.Style.the-variants.{Mixed, HalfRow, Row, NoRow}
+use Rattle.brace_format.specs.declared.style.Style.{Style}
 use Rattle.brace_facts.specs.Choice.{BestHalf, AllIn}
 
 module _ (all : List ℕ) where

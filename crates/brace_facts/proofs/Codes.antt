@@ -17,10 +17,10 @@ use Rattle.copying.specs.declared.Mode.the-variants.{Coded, CodedHyphen, Copied
 use Rattle.copying.proofs.Modes.{modeOf, after-coded}
 use Rattle.copying.proofs.Bytes.{hyphen-ldh, ldh-from}
 use Rattle.copying.proofs.Heads.{join-quintet}
-use Rattle.brace.specs.declared.style.Style.{Style}
-use Rattle.brace.specs.Style.{widthOf, codeOf, widthBy, unitOf}
-use Rattle.brace.specs.Encoding.{quintetCount, spareCount, ahead, codeQuintets, unitSymbols, outAfter, symbolsFrom}
-use Rattle.brace.specs.Decoding.{dueWidth}
+use Rattle.brace_format.specs.declared.style.Style.{Style}
+use Rattle.brace_format.specs.Style.{widthOf, codeOf, widthBy, unitOf}
+use Rattle.brace_symbols.specs.Encoding.{quintetCount, spareCount, ahead, codeQuintets, unitSymbols, outAfter, symbolsFrom}
+use Rattle.brace_text.specs.Decoding.{dueWidth}
 use Rattle.brace_facts.proofs.Steps.{Reads, reads-none, reads-hyphen, reads-copied, reads-part, reads-last}
 
 -- the last n + 1 quintets of x, a code of w bits and then spare ones, with those before in the queue

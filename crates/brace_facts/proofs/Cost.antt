@@ -13,11 +13,11 @@ use Rattle.ascii.specs.Ldh.{isLdh}
 use Rattle.copying.specs.Symbols.{quintets}
 use Rattle.copying.specs.Modes.{copyingAfter, switchIf}
 use Rattle.copying.proofs.Bytes.{ldh-from, hyphen-ldh}
-use Rattle.brace.specs.Style.{otherHalf, headWidth, widthOf}
-use Rattle.brace.specs.Choice.{codesOf, countIn, mixedCost, noRowCost}
-use Rattle.brace.specs.Encoding.{quintetCount, spareCount, codeQuintets, unitSymbols, outAfter, symbolsFrom, bodyOf}
-use Rattle.brace.specs.declared.style.Style.{Style}
-use Rattle.brace.specs.declared.style.Style.the-variants.{HalfRow, Row, Mixed, NoRow}
+use Rattle.brace_format.specs.Style.{otherHalf, headWidth, widthOf}
+use Rattle.brace_choice.specs.Choice.{codesOf, countIn, mixedCost, noRowCost}
+use Rattle.brace_symbols.specs.Encoding.{quintetCount, spareCount, codeQuintets, unitSymbols, outAfter, symbolsFrom, bodyOf}
+use Rattle.brace_format.specs.declared.style.Style.{Style}
+use Rattle.brace_format.specs.declared.style.Style.the-variants.{HalfRow, Row, Mixed, NoRow}
 use Rattle.brace_facts.specs.Choice.{codedCount}
 use Rattle.brace_facts.proofs.Codes.{spare-few}
 use Rattle.brace_facts.proofs.Lengths.{head-few}

@@ -9,11 +9,11 @@ use Rattle.labels.specs.Tests.{labelTests}
 use Rattle.base32.specs.Alphabet.{brace, characterOf, valueOf}
 use Rattle.copying.specs.Symbols.{byteOf, bytesOf, capital, headNumber, isFor, areFor, quintetOf, quintets}
 use Rattle.copying.specs.Modes.{afterHyphen, afterOther, copyingAfter, isCopied, isCoded, isSecond, nextMode, switchIf}
-use Rattle.brace.specs.Signature.{signature, isSigned}
-use Rattle.brace.specs.Style.{otherHalf, headWidth, headValue, widthOf, codeOf, widthBy, unitOf}
-use Rattle.brace.specs.Choice.{codesOf, countIn, mixedCost, noRowCost, isBetter, bestOf, mixedOrNoRow, styleFor, styleOf}
-use Rattle.brace.specs.Encoding.{quintetCount, spareCount, ahead, codeQuintets, unitSymbols, outAfter, symbolsFrom, bodyOf, isPlain, symbolsOf, labelOf}
-use Rattle.brace.specs.Decoding.{dueWidth, isWhole, countLeft, valueLeft, unitTaken, nextCount, nextValue, adds, textFrom, headLength, headSpare, headStyle, textBy, kindOf, bodyText, textOf}
+use Rattle.brace_format.specs.Signature.{signature, isSigned}
+use Rattle.brace_format.specs.Style.{otherHalf, headWidth, headValue, widthOf, codeOf, widthBy, unitOf}
+use Rattle.brace_choice.specs.Choice.{codesOf, countIn, mixedCost, noRowCost, isBetter, bestOf, mixedOrNoRow, styleFor, styleOf}
+use Rattle.brace_symbols.specs.Encoding.{quintetCount, spareCount, ahead, codeQuintets, unitSymbols, outAfter, symbolsFrom, bodyOf, isPlain, symbolsOf, labelOf}
+use Rattle.brace_text.specs.Decoding.{dueWidth, isWhole, countLeft, valueLeft, unitTaken, nextCount, nextValue, adds, textFrom, headLength, headSpare, headStyle, textBy, kindOf, bodyText, textOf}
 use Rattle.brace.specs.Answer.{isTooLong, encodeOutcome, isDone, isLawful, firstNotLdh, decodeOutcome}
 use Rattle.brace_facts.specs.KnownLabels.{texts, labels, otherLabels, otherTexts, noLabels, times, Computed, ComputedRefusals}
 

@@ -20,9 +20,9 @@ use Rattle.labels.specs.Causes as labels
 use Rattle.base32.specs.Alphabet.{brace}
 use Rattle.copying.specs.Symbols.{areFor, capital}
 use Rattle.copying.proofs.Facts.{same-spelled, same-text, same-length, same-edges, faithful, alike}
-use Rattle.brace.specs.Signature.{signature, isSigned}
-use Rattle.brace.specs.Encoding.{symbolsOf, labelOf}
-use Rattle.brace.specs.Decoding.{textOf}
+use Rattle.brace_format.specs.Signature.{signature, isSigned}
+use Rattle.brace_symbols.specs.Encoding.{symbolsOf, labelOf}
+use Rattle.brace_text.specs.Decoding.{textOf}
 use Rattle.brace.specs.Answer.{isLawful}
 use Rattle.brace_facts.specs.Causes.{Signed, EdgeHyphen, OutsideAt, SpellsUnits}
 use Rattle.brace_facts.specs.Codec.{codec}

@@ -11,12 +11,12 @@ use Rattle.base32.specs.Alphabet.{brace}
 use Rattle.copying.specs.Symbols.{areFor, quintetOf, quintets}
 use Rattle.copying.proofs.Modes.{modeOf}
 use Rattle.copying.proofs.Heads.{head-first, head-number, head-rest}
-use Rattle.brace.specs.declared.style.Style.{Style}
-use Rattle.brace.specs.declared.style.Style.the-variants.{HalfRow, Row, Mixed, NoRow}
-use Rattle.brace.specs.Style.{headWidth, headValue}
-use Rattle.brace.specs.Encoding.{quintetCount, spareCount, ahead, codeQuintets, symbolsFrom, bodyOf}
-use Rattle.brace.specs.Decoding.{headLength, headSpare, headStyle, textBy, kindOf, bodyText}
-use Rattle.brace.specs.Internal.{RowFits}
+use Rattle.brace_format.specs.declared.style.Style.{Style}
+use Rattle.brace_format.specs.declared.style.Style.the-variants.{HalfRow, Row, Mixed, NoRow}
+use Rattle.brace_format.specs.Style.{headWidth, headValue}
+use Rattle.brace_symbols.specs.Encoding.{quintetCount, spareCount, ahead, codeQuintets, symbolsFrom, bodyOf}
+use Rattle.brace_text.specs.Decoding.{headLength, headSpare, headStyle, textBy, kindOf, bodyText}
+use Rattle.brace_text.specs.Internal.{RowFits}
 use Rattle.brace_facts.proofs.Codes.{AllCodes, ahead-lt, reads-text}
 
 -- a body whose head is the number x of n + 1 quintets

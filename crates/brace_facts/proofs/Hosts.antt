@@ -22,14 +22,14 @@ use Rattle.copying.specs.Modes.{copyingAfter, isCopied, isSecond, nextMode}
 use Rattle.copying.proofs.Bytes.{hyphen-ldh}
 use Rattle.copying.proofs.Elements.{AllOf, all-append, all-drop, all-take}
 use Rattle.copying.proofs.Hosts.{IsSymbol, quintets-symbols, spelled-ldh, switch-symbols, ldh-symbols}
-use Rattle.brace.specs.Signature.{signature, isSigned}
-use Rattle.brace.specs.declared.style.Style.{Style}
-use Rattle.brace.specs.declared.style.Style.the-variants.{HalfRow, Row, Mixed, NoRow}
-use Rattle.brace.specs.Style.{otherHalf, unitOf}
-use Rattle.brace.specs.Choice.{styleOf}
-use Rattle.brace.specs.Encoding.{codeQuintets, unitSymbols, outAfter, symbolsFrom, bodyOf, isPlain, symbolsOf}
-use Rattle.brace.specs.Decoding.{isWhole, unitTaken, nextCount, nextValue, adds, textFrom, headLength, headStyle, textBy, kindOf, bodyText, textOf}
-use Rattle.brace.specs.Internal.{RowFits}
+use Rattle.brace_format.specs.Signature.{signature, isSigned}
+use Rattle.brace_format.specs.declared.style.Style.{Style}
+use Rattle.brace_format.specs.declared.style.Style.the-variants.{HalfRow, Row, Mixed, NoRow}
+use Rattle.brace_format.specs.Style.{otherHalf, unitOf}
+use Rattle.brace_choice.specs.Choice.{styleOf}
+use Rattle.brace_symbols.specs.Encoding.{codeQuintets, unitSymbols, outAfter, symbolsFrom, bodyOf, isPlain, symbolsOf}
+use Rattle.brace_text.specs.Decoding.{isWhole, unitTaken, nextCount, nextValue, adds, textFrom, headLength, headStyle, textBy, kindOf, bodyText, textOf}
+use Rattle.brace_text.specs.Internal.{RowFits}
 use Rattle.brace_facts.proofs.Alphabet.{brace-ldh, brace-written}
 use Rattle.brace_facts.proofs.RoundTrip.{plain-ldh}
 

@@ -14,11 +14,11 @@ use Rattle.base32.specs.Alphabet.{brace}
 use Rattle.copying.specs.Symbols.{byteOf, bytesOf, capital}
 use Rattle.copying.specs.Modes.{copyingAfter}
 use Rattle.copying.proofs.Lengths.{length-quintets, length-switch}
-use Rattle.brace.specs.declared.style.Style.{Style}
-use Rattle.brace.specs.declared.style.Style.the-variants.{HalfRow, Row, Mixed, NoRow}
-use Rattle.brace.specs.Style.{headWidth, widthOf}
-use Rattle.brace.specs.Choice.{styleOf}
-use Rattle.brace.specs.Encoding.{quintetCount, spareCount, codeQuintets, unitSymbols, outAfter, symbolsFrom, bodyOf, isPlain, symbolsOf, labelOf}
+use Rattle.brace_format.specs.declared.style.Style.{Style}
+use Rattle.brace_format.specs.declared.style.Style.the-variants.{HalfRow, Row, Mixed, NoRow}
+use Rattle.brace_format.specs.Style.{headWidth, widthOf}
+use Rattle.brace_choice.specs.Choice.{styleOf}
+use Rattle.brace_symbols.specs.Encoding.{quintetCount, spareCount, codeQuintets, unitSymbols, outAfter, symbolsFrom, bodyOf, isPlain, symbolsOf, labelOf}
 use Rattle.brace_facts.proofs.Codes.{Codes, AllCodes, spare-few}
 use Rattle.brace_facts.proofs.Styles.{text-suits}
 

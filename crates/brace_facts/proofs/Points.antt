@@ -32,8 +32,8 @@ use Rattle.labels.proofs.Causes.{TextAndLabel, some-iff}
 use Rattle.base32.specs.Alphabet.{brace}
 use Rattle.copying.specs.Symbols.{capital}
 use Rattle.copying.proofs.Same.{same-label, bytes-spell}
-use Rattle.brace.specs.Encoding as encoding
-use Rattle.brace.specs.Decoding as decoding
+use Rattle.brace_symbols.specs.Encoding as encoding
+use Rattle.brace_text.specs.Decoding as decoding
 use Rattle.brace.specs.Answer as answer
 use Rattle.brace.specs.Points.{labelOf, textOf, encodeOutcome, decodeOutcome}
 use Rattle.brace_facts.specs.Causes.{pointsCauses}

@@ -15,12 +15,12 @@ use Rattle.ascii.specs.Ldh.{isLdh}
 use Rattle.copying.specs.Symbols.{quintets}
 use Rattle.copying.specs.Modes.{copyingAfter, switchIf}
 use Rattle.copying.proofs.Bytes.{hyphen-ldh}
-use Rattle.brace.specs.Choice.{styleOf}
-use Rattle.brace.specs.declared.style.Style.{Style}
-use Rattle.brace.specs.declared.style.Style.the-variants.{HalfRow, Row, Mixed, NoRow}
-use Rattle.brace.specs.Style.{headWidth, headValue, widthOf, codeOf}
-use Rattle.brace.specs.Encoding.{quintetCount, spareCount, ahead, codeQuintets, unitSymbols, outAfter, symbolsFrom, bodyOf}
-use Rattle.brace.specs.Internal.{RowFits}
+use Rattle.brace_choice.specs.Choice.{styleOf}
+use Rattle.brace_format.specs.declared.style.Style.{Style}
+use Rattle.brace_format.specs.declared.style.Style.the-variants.{HalfRow, Row, Mixed, NoRow}
+use Rattle.brace_format.specs.Style.{headWidth, headValue, widthOf, codeOf}
+use Rattle.brace_symbols.specs.Encoding.{quintetCount, spareCount, ahead, codeQuintets, unitSymbols, outAfter, symbolsFrom, bodyOf}
+use Rattle.brace_text.specs.Internal.{RowFits}
 use Rattle.brace_facts.specs.Procedure.{hasLetter, dequeueAll, enqueueCode, bufferAfter, bitsAfter, valueAfter, unitOut, draftFrom, draftBody}
 use Rattle.brace_facts.proofs.Codes.{Codes, AllCodes, ahead-lt, after-spare}
 use Rattle.brace_facts.proofs.Styles.{text-suits}

@@ -15,11 +15,11 @@ use Rattle.base32.specs.Alphabet.{brace}
 use Rattle.copying.specs.Symbols.{areFor}
 use Rattle.copying.proofs.Bytes.{spelled-length, spelled-left, spelled-right, ldh-spelled}
 use Rattle.copying.proofs.Elements.{AllOf}
-use Rattle.brace.specs.Signature.{signature, isSigned}
-use Rattle.brace.specs.Choice.{codesOf, bestOf, isBetter, mixedCost, noRowCost, mixedOrNoRow, styleFor, styleOf}
-use Rattle.brace.specs.Encoding.{bodyOf, isPlain, symbolsOf}
-use Rattle.brace.specs.Decoding.{bodyText, textOf}
-use Rattle.brace.specs.Internal.{RowFits}
+use Rattle.brace_format.specs.Signature.{signature, isSigned}
+use Rattle.brace_choice.specs.Choice.{codesOf, bestOf, isBetter, mixedCost, noRowCost, mixedOrNoRow, styleFor, styleOf}
+use Rattle.brace_symbols.specs.Encoding.{bodyOf, isPlain, symbolsOf}
+use Rattle.brace_text.specs.Decoding.{bodyText, textOf}
+use Rattle.brace_text.specs.Internal.{RowFits}
 use Rattle.brace_facts.proofs.Styles.{codes-below, text-suits}
 use Rattle.brace_facts.proofs.Head.{body-back}
 

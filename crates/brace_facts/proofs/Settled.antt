@@ -22,9 +22,9 @@ use Rattle.base32.specs.Alphabet.{brace}
 use Rattle.copying.specs.Symbols.{capital}
 use Rattle.copying.proofs.Same.{same-label}
 use Rattle.copying.proofs.Facts.{CopyingFacts, no-text-iff}
-use Rattle.brace.specs.Signature.{signature, isSigned}
-use Rattle.brace.specs.Encoding.{symbolsOf, labelOf}
-use Rattle.brace.specs.Decoding.{textOf}
+use Rattle.brace_format.specs.Signature.{signature, isSigned}
+use Rattle.brace_symbols.specs.Encoding.{symbolsOf, labelOf}
+use Rattle.brace_text.specs.Decoding.{textOf}
 use Rattle.brace.specs.Answer.{isTooLong, encodeOutcome, isDone, isLawful, firstNotLdh, decodeOutcome}
 use Rattle.brace_facts.specs.Causes.{Signed, TooLong, textCauses, OutsideAt, NoText, labelCauses}
 use Rattle.brace_facts.specs.Codec.{codec}

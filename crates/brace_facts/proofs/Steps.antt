@@ -13,9 +13,9 @@ use Rattle.copying.specs.Symbols.{isFor, areFor}
 use Rattle.copying.specs.declared.Mode.{Mode}
 use Rattle.copying.specs.Modes.{afterHyphen, afterOther, isCopied, isCoded, isSecond, nextMode}
 use Rattle.copying.proofs.Bytes.{coded-no-hyphen, coded-quintet, copied-is}
-use Rattle.brace.specs.declared.style.Style.{Style}
-use Rattle.brace.specs.Style.{unitOf}
-use Rattle.brace.specs.Decoding.{dueWidth, isWhole, countLeft, valueLeft, unitTaken, nextCount, nextValue, adds, textFrom}
+use Rattle.brace_format.specs.declared.style.Style.{Style}
+use Rattle.brace_format.specs.Style.{unitOf}
+use Rattle.brace_text.specs.Decoding.{dueWidth, isWhole, countLeft, valueLeft, unitTaken, nextCount, nextValue, adds, textFrom}
 use Rattle.brace_facts.proofs.Alphabet.{brace-written}
 
 -- every row of bytes that is read as the symbols gives the text, from this state on

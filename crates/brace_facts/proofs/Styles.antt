@@ -12,10 +12,10 @@ use Rattle.basis.proofs.Tests.{cases, true-not-false}
 use Rattle.basis.proofs.Lists.{below-tail}
 use Rattle.ascii.specs.Ldh.{isLdh}
 use Rattle.copying.proofs.Elements.{AllOf, all-tested, all-then}
-use Rattle.brace.specs.declared.style.Style.{Style}
-use Rattle.brace.specs.declared.style.Style.the-variants.{HalfRow, Row, Mixed, NoRow}
-use Rattle.brace.specs.Style.{otherHalf, widthOf, codeOf, widthBy, unitOf}
-use Rattle.brace.specs.Choice.{codesOf, mixedOrNoRow, bestOf, mixedCost, noRowCost, styleFor, styleOf}
+use Rattle.brace_format.specs.declared.style.Style.{Style}
+use Rattle.brace_format.specs.declared.style.Style.the-variants.{HalfRow, Row, Mixed, NoRow}
+use Rattle.brace_format.specs.Style.{otherHalf, widthOf, codeOf, widthBy, unitOf}
+use Rattle.brace_choice.specs.Choice.{codesOf, mixedOrNoRow, bestOf, mixedCost, noRowCost, styleFor, styleOf}
 use Rattle.brace_facts.proofs.Codes.{Codes, AllCodes}
 
 codes-half : (h u : ℕ) → u / 128 ≡ h → Codes (HalfRow h) u

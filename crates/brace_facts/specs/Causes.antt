@@ -15,8 +15,8 @@ use Rattle.labels.specs.Causes.{Empty}
 use Rattle.labels.specs.Causes as labels
 use Rattle.base32.specs.Alphabet.{brace}
 use Rattle.copying.specs.Symbols.{SameLabel, capital}
-use Rattle.brace.specs.Signature.{signature}
-use Rattle.brace.specs.Encoding.{symbolsOf, labelOf}
+use Rattle.brace_format.specs.Signature.{signature}
+use Rattle.brace_symbols.specs.Encoding.{symbolsOf, labelOf}
 
 -- ends with the signature, in either case
 abbrev pub Signed : List ℕ → Type 0

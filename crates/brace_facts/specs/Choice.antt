@@ -6,7 +6,7 @@ use lib.Dec.{ltb}
 use lib.ListN.{length}
 use Rattle.basis.specs.Tests.{pick}
 use Rattle.basis.specs.Rows.{at}
-use Rattle.brace.specs.Choice.{mixedCost}
+use Rattle.brace_choice.specs.Choice.{mixedCost}
 
 -- the half-row h is used, has the least M of those that are used, and is the lowest with that M
 pub record BestHalf (codes : List ℕ) (h : ℕ) : Type 0 where

@@ -4,8 +4,8 @@ use Prim.Native.Nat.{ℕ}
 use Rattle.basis.specs.Codec.{Codec}
 use Rattle.ascii.specs.Case.{SameButCase}
 use Rattle.utf16.specs.Units.{toUnits}
-use Rattle.brace.specs.Encoding.{labelOf}
-use Rattle.brace.specs.Decoding.{textOf}
+use Rattle.brace_symbols.specs.Encoding.{labelOf}
+use Rattle.brace_text.specs.Decoding.{textOf}
 use Rattle.brace.specs.Answer.{encodeOutcome, decodeOutcome}
 use Rattle.brace.specs.Points as points
 use Rattle.brace_facts.specs.Causes.{textCauses, pointsCauses, labelCauses, Spells, SpellsUnits}

@@ -4,8 +4,8 @@ use mathlib.Core.Path.{_≡_}
 use mathlib.Core.List.{List, [], _∷_, map}
 use lib.ListN.{length}
 use Rattle.basis.specs.Outcome.{done, refused}
-use Rattle.brace.specs.Encoding.{labelOf}
-use Rattle.brace.specs.Decoding.{textOf}
+use Rattle.brace_symbols.specs.Encoding.{labelOf}
+use Rattle.brace_text.specs.Decoding.{textOf}
 use Rattle.brace.specs.Answer.{encodeOutcome, decodeOutcome}
 
 -- texts, and their labels: 22ZI-8Q9, 22Z-a-I-8Q9, 22ZM---a---W-8Q9, TIAASC6MI2-8Q9, JI66J8MI2-8Q9,

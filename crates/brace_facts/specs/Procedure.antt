@@ -8,8 +8,8 @@ use Rattle.basis.specs.Tests.{pick}
 use Rattle.ascii.specs.Ldh.{isLdh}
 use Rattle.copying.specs.Symbols.{quintets}
 use Rattle.copying.specs.Modes.{switchIf}
-use Rattle.brace.specs.Style.{headWidth, headValue, widthOf, codeOf}
-use Rattle.brace.specs.declared.style.Style.{Style}
+use Rattle.brace_format.specs.Style.{headWidth, headValue, widthOf, codeOf}
+use Rattle.brace_format.specs.declared.style.Style.{Style}
 
 -- the buffer contains any non-hyphens
 unfoldable pub hasLetter : List ℕ → Bool

@@ -8,8 +8,8 @@ use Rattle.basis.specs.Tests.{both}
 use Rattle.basis.specs.Outcome.{done}
 use Rattle.base32.specs.Alphabet.{brace}
 use Rattle.copying.specs.Symbols.{areFor}
-use Rattle.brace.specs.Encoding.{symbolsOf, labelOf}
-use Rattle.brace.specs.Decoding.{textOf}
+use Rattle.brace_symbols.specs.Encoding.{symbolsOf, labelOf}
+use Rattle.brace_text.specs.Decoding.{textOf}
 use Rattle.brace.specs.Answer.{decodeOutcome}
 
 -- of 000 and 002: UVJ7FUAQCAHY982XA---with--super--monkeys-8Q9,

@@ -14,9 +14,9 @@ use Rattle.basis.proofs.Outcome.{passed}
 use Rattle.utf16.specs.Bytes.{unitsOfBytes, bytesOfUnits, pointsOf, bytesOf}
 use Rattle.utf16.specs.Answer.{isOdd}
 use Rattle.utf16.proofs.BytePairs.{length-unitsOfBytes, length-bytesOfUnits, below-unitsOfBytes}
-use Rattle.brace.specs.Choice.{codesOf, styleOf}
-use Rattle.brace.specs.Encoding.{labelOf}
-use Rattle.brace.specs.Decoding.{textOf}
+use Rattle.brace_choice.specs.Choice.{codesOf, styleOf}
+use Rattle.brace_symbols.specs.Encoding.{labelOf}
+use Rattle.brace_text.specs.Decoding.{textOf}
 use Rattle.brace.specs.Answer.{encodeOutcome, decodeOutcome}
 use Rattle.brace.specs.Points as points
 use Rattle.brace_facts.proofs.Procedure.{procedure-is}

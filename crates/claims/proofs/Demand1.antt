@@ -36,12 +36,12 @@ use Rattle.lace.specs.Encoding as lace-encoding
 use Rattle.lace.specs.Decoding as lace-decoding
 use Rattle.lace.specs.Answer as lace
 use Rattle.lace_facts.proofs.Label as lace-laws
-use Rattle.brace.specs.Encoding as brace-encoding
-use Rattle.brace.specs.Decoding as brace-decoding
+use Rattle.brace_symbols.specs.Encoding as brace-encoding
+use Rattle.brace_text.specs.Decoding as brace-decoding
 use Rattle.brace.specs.Answer as brace
 use Rattle.brace.specs.Points as brace-points
-use Rattle.brace.proofs.Edges.{label-edges}
-use Rattle.brace.proofs.Labels.{either-false}
+use Rattle.brace_symbols.proofs.Edges.{label-edges}
+use Rattle.brace_symbols.proofs.Labels.{either-false}
 use Rattle.brace.proofs.PointsLaws.{text-unpaired, lawful-short}
 use Rattle.scheme.specs.declared.Scheme.{Scheme}
 use Rattle.scheme.specs.declared.Scheme.the-variants.{Altdude, Lace, Brace}

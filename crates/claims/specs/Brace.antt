@@ -9,11 +9,11 @@ use Rattle.basis.specs.Rows.{at, AllBelow}
 use Rattle.basis.specs.Outcome.{done, refusedIf, andThen}
 use Rattle.utf16.specs.Bytes.{unitsOfBytes, bytesOfUnits}
 use Rattle.utf16.specs.Answer.{isOdd}
-use Rattle.brace.specs.Choice.{codesOf, mixedCost, noRowCost, styleOf}
-use Rattle.brace.specs.Encoding.{bodyOf, labelOf}
-use Rattle.brace.specs.Decoding.{textOf}
+use Rattle.brace_choice.specs.Choice.{codesOf, mixedCost, noRowCost, styleOf}
+use Rattle.brace_symbols.specs.Encoding.{bodyOf, labelOf}
+use Rattle.brace_text.specs.Decoding.{textOf}
 use Rattle.brace.specs.Answer.{encodeOutcome, decodeOutcome}
-use Rattle.brace.specs.declared.style.Style.the-variants.{HalfRow, Row, Mixed, NoRow}
+use Rattle.brace_format.specs.declared.style.Style.the-variants.{HalfRow, Row, Mixed, NoRow}
 use Rattle.brace_facts.specs.Procedure.{draftBody}
 use Rattle.brace_facts.specs.Choice.{BestHalf, AllIn, codedCount}
 use Rattle.brace_facts.specs.KnownLabels.{Computed, ComputedRefusals}

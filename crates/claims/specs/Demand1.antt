@@ -29,8 +29,8 @@ use Rattle.altdude.specs.Answer as altdude
 use Rattle.lace.specs.Encoding as lace-encoding
 use Rattle.lace.specs.Decoding as lace-decoding
 use Rattle.lace.specs.Answer as lace
-use Rattle.brace.specs.Encoding as brace-encoding
-use Rattle.brace.specs.Decoding as brace-decoding
+use Rattle.brace_symbols.specs.Encoding as brace-encoding
+use Rattle.brace_text.specs.Decoding as brace-decoding
 use Rattle.brace.specs.Answer as brace
 use Rattle.brace.specs.Points as brace-points
 use Rattle.scheme.specs.declared.Scheme.{Scheme}

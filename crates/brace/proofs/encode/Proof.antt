@@ -5,7 +5,7 @@ use borrow.Author.Needs.{needs}
 use Rattle.basis.specs.Outcome.{bytesOutcome}
 use Rattle.basis.proofs.Outcome.{refusal-leaves}
 use Rattle.brace.specs.Answer.{encodeOutcome}
-use Rattle.brace.proofs.Labels.{stop-capacity, pass-capacity, symbols-few, symbols-fit, symbols-long, label-put}
+use Rattle.brace_symbols.proofs.Labels.{stop-capacity, pass-capacity, symbols-few, symbols-fit, symbols-long, label-put}
 use Rattle.brace.proofs.encode.Statement.{statement}
 use Rattle.brace.proofs.encode.Tie as tie
 

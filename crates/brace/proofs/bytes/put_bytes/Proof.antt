@@ -6,7 +6,7 @@ use borrow.Author.Needs.{needs}
 use Rattle.basis.proofs.Stores.{Storing, storing-all}
 use Rattle.base32.specs.Alphabet.{brace}
 use Rattle.copying.specs.Symbols.{capital, bytesOf}
-use Rattle.brace.proofs.Labels.{row-turn, row-end, length-bytes, byte-at}
+use Rattle.brace_symbols.proofs.Labels.{row-turn, row-end, length-bytes, byte-at}
 use Rattle.brace.proofs.bytes.put_bytes.Statement.{statement}
 use Rattle.brace.proofs.bytes.put_bytes.Tie as tie
 

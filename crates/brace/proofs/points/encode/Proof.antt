@@ -8,7 +8,7 @@ use Rattle.utf16.specs.Answer.{unitsOutcome}
 use Rattle.utf16.proofs.Converted.{Converted, converts, not-refused, units-fit, units-long, units-are}
 use Rattle.labels.proofs.FirstTests.{check-stops, check-passes, text-checked}
 use Rattle.brace.specs.Answer as answer
-use Rattle.brace.specs.Encoding as encoding
+use Rattle.brace_symbols.specs.Encoding as encoding
 use Rattle.brace.specs.Points.{encodeOutcome, labelOf}
 use Rattle.brace.proofs.PointsLaws.{points-long}
 use Rattle.brace.proofs.points.encode.Statement.{statement}

@@ -3,7 +3,7 @@ use Prim.Native.Nat.{_-_}
 use lib.ListN.{length}
 use native.Mathlib.Omega.{arith}
 use borrow.Author.Needs.{needs}
-use Rattle.brace.proofs.Signed.{signed-short, signed-four}
+use Rattle.brace_format.proofs.Signed.{signed-short, signed-four}
 use Rattle.brace.proofs.signature.label_is_signed.Statement.{statement}
 use Rattle.brace.proofs.signature.label_is_signed.Tie as tie
 

@@ -1,0 +1,2 @@
+-- Which style a text of BRACE has.
+pub mod Choice

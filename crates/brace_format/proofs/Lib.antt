@@ -1,0 +1,2 @@
+-- The laws of the signature.
+pub mod Signed

@@ -1,0 +1,4 @@
+-- The laws of reading a body.
+pub mod Bits
+pub mod Reading
+pub mod Head
