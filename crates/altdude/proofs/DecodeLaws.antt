@@ -16,8 +16,8 @@ use Rattle.basis.proofs.Tests.{cases, by-lt, both-false}
 use Rattle.basis.proofs.Stores.{Storing, storing-all, storing-more, storing-none}
 use Rattle.utf16.specs.Points.{isPoint}
 use Rattle.utf16.proofs.Surrogates.{point-top}
-use Rattle.base32.specs.Alphabet.{altdude, valueOf}
-use Rattle.base32.proofs.Inverse.{value-le, altdude-alphabet}
+use Rattle.alphabet.specs.Alphabet.{altdude, valueOf}
+use Rattle.alphabet.proofs.Inverse.{value-le, altdude-alphabet}
 use Rattle.altdude.specs.Symbols.{symbolOf, isCharacter}
 use Rattle.altdude.specs.Decoding.{follows, nextRemembered, nextPending, adds, isReadable, textFrom, textOf}
 use Rattle.altdude.specs.Internal.{Goes, StepMeans, addsAfter}

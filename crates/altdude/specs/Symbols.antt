@@ -4,7 +4,7 @@ use mathlib.Core.Bool.{Bool, not}
 use mathlib.Core.List.{List}
 use lib.Dec.{eqb}
 use Rattle.basis.specs.Tests.{pick, firstIn}
-use Rattle.base32.specs.Alphabet.{altdude, characterOf, valueOf}
+use Rattle.alphabet.specs.Alphabet.{altdude, characterOf, valueOf}
 
 -- the symbol of a byte, 32 where it is neither a hyphen nor one of the 32 characters
 unfoldable pub symbolOf : ℕ → ℕ

@@ -1,5 +1,4 @@
 // Symbols and bytes, and the scans over them.
-use base32::alphabet;
 ghost use mathlib.Core.Path.{_≡_};
 ghost use Rattle.altdude.specs.Symbols.{symbolOf, byteOf, firstOutside};
 

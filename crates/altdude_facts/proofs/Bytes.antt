@@ -14,8 +14,8 @@ use Rattle.basis.proofs.Lists.{map-after, map-self}
 use Rattle.ascii.specs.Case.{small}
 use Rattle.ascii.proofs.Case.{small-below, small-small}
 use Rattle.ascii.proofs.EdgeHyphen.{KeepsHyphen, keeps-hyphen, small-keeps-hyphen}
-use Rattle.base32.specs.Alphabet.{altdude, characterOf, valueOf}
-use Rattle.base32.proofs.Inverse.{value-same, value-le, value-character, character-value, character-no-hyphen, altdude-alphabet}
+use Rattle.alphabet.specs.Alphabet.{altdude, characterOf, valueOf}
+use Rattle.alphabet.proofs.Inverse.{value-same, value-le, value-character, character-value, character-no-hyphen, altdude-alphabet}
 use Rattle.altdude.specs.Symbols.{symbolOf, byteOf, isCharacter}
 
 -- a hyphen or a value 0 to 31

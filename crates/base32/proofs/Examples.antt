@@ -5,7 +5,7 @@ use mathlib.Core.List.{[], _∷_}
 use Rattle.basis.specs.Tests.{both, within, every, firstBelow}
 use Rattle.basis.specs.Rows.{tabulate}
 use Rattle.ascii.specs.Case.{isCapital, small}
-use Rattle.base32.specs.Alphabet.{lace, characterOf, valueOf, valuesOf}
+use Rattle.alphabet.specs.Alphabet.{lace, characterOf, valueOf, valuesOf}
 use Rattle.base32.specs.Bits.{bitOf, fromBits, rowBit, group, regroup}
 use Rattle.base32.specs.Form.{lengthLawful, spareZero, isLawful}
 use Rattle.base32.specs.Base32.{toQuintets, toOctets, charactersOf}

@@ -1,6 +1,4 @@
--- The laws of alphabets, bits and Base32.
-pub mod Inverse
-pub mod Ranges
+-- The laws of bits and Base32.
 pub mod Bits
 pub mod Regroup
 pub mod Form

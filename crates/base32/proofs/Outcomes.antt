@@ -12,7 +12,7 @@ use Rattle.basis.specs.Outcome.{refused}
 use Rattle.basis.specs.Causes.{Settles}
 use Rattle.basis.proofs.Tests.{ltb-iff, not-iff}
 use Rattle.basis.proofs.Causes.{settle-whole, settle-first, settle-done}
-use Rattle.base32.specs.Alphabet.{lace, isCharacter, valuesOf}
+use Rattle.alphabet.specs.Alphabet.{lace, isCharacter, valuesOf}
 use Rattle.base32.specs.Form.{octetCount, isLawful}
 use Rattle.base32.specs.Base32.{quintetCount}
 use Rattle.base32.specs.Answer.{firstOutside, encodeOutcome, decodeOutcome}

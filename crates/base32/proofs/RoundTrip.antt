@@ -9,11 +9,11 @@ use Rattle.basis.specs.Rows.{at, AllBelow}
 use Rattle.basis.proofs.Tests.{first-none}
 use Rattle.basis.proofs.Lists.{map-same, at-map}
 use Rattle.ascii.specs.Case.{small}
-use Rattle.base32.specs.Alphabet.{characterOf, valueOf, isCharacter, isAlphabet, valuesOf}
+use Rattle.alphabet.specs.Alphabet.{characterOf, valueOf, isCharacter, isAlphabet, valuesOf}
 use Rattle.base32.specs.Form.{isLawful}
 use Rattle.base32.specs.Base32.{toQuintets, toOctets, charactersOf}
 use Rattle.base32.specs.Answer.{firstOutside}
-use Rattle.base32.proofs.Inverse.{value-character, character-value}
+use Rattle.alphabet.proofs.Inverse.{value-character, character-value}
 use Rattle.base32.proofs.Regroup.{toQuintets-below, octets-back, quintets-lawful, quintets-back}
 use Rattle.base32.proofs.Values.{values-below}
 

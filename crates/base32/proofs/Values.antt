@@ -9,7 +9,7 @@ use native.Mathlib.Omega.{arith}
 use Rattle.basis.specs.Rows.{at, tabulate, AllBelow}
 use Rattle.basis.proofs.Tests.{first-le, first-before}
 use Rattle.basis.proofs.Lists.{at-map, map-tabulate}
-use Rattle.base32.specs.Alphabet.{characterOf, valueOf, isCharacter, valuesOf}
+use Rattle.alphabet.specs.Alphabet.{characterOf, valueOf, isCharacter, valuesOf}
 use Rattle.base32.specs.Bits.{regroup}
 use Rattle.base32.specs.Form.{octetCount}
 use Rattle.base32.specs.Base32.{quintetCount, toQuintets, toOctets, charactersOf}

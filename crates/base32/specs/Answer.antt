@@ -6,7 +6,7 @@ use lib.Dec.{ltb}
 use lib.ListN.{length}
 use Rattle.basis.specs.Tests.{firstIn}
 use Rattle.basis.specs.Outcome.{Outcome, done, refusedIf}
-use Rattle.base32.specs.Alphabet.{lace, isCharacter, valuesOf}
+use Rattle.alphabet.specs.Alphabet.{lace, isCharacter, valuesOf}
 use Rattle.base32.specs.Form.{octetCount, isLawful}
 use Rattle.base32.specs.Base32.{quintetCount}
 

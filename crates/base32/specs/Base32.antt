@@ -3,7 +3,7 @@ use Prim.Native.Nat.{ℕ, _+_, _*_, _/_}
 use mathlib.Core.List.{List, map}
 use lib.ListN.{length}
 use Rattle.basis.specs.Rows.{at, tabulate}
-use Rattle.base32.specs.Alphabet.{characterOf}
+use Rattle.alphabet.specs.Alphabet.{characterOf}
 use Rattle.base32.specs.Bits.{regroup}
 use Rattle.base32.specs.Form.{octetCount}
 

@@ -7,7 +7,7 @@ use lib.ListN.{length}
 use Rattle.basis.specs.Tests.{IsFirst}
 use Rattle.basis.specs.Rows.{at}
 use Rattle.basis.specs.Causes.{Cause, whole, placed}
-use Rattle.base32.specs.Alphabet.{lace, isCharacter, valuesOf}
+use Rattle.alphabet.specs.Alphabet.{lace, isCharacter, valuesOf}
 use Rattle.base32.specs.Form.{octetCount, isLawful}
 use Rattle.base32.specs.Base32.{quintetCount}
 

@@ -1,8 +1,6 @@
--- Alphabets, bits regrouped, Base32, and what its writer and reader answer.
-pub mod Alphabet
+-- Bits regrouped, Base32, and what its writer and reader answer.
 pub mod Bits
 pub mod Form
 pub mod Base32
 pub mod Answer
 pub mod Causes
-pub mod Internal

@@ -1,6 +1,6 @@
-// The alphabets of the schemes, and Base32 on parts of a label.
-pub mod alphabet;
+// Base32 on parts of a label.
 mod octets;
+pub mod outside;
 mod quintets;
 
 use basis::ByteCount;
@@ -9,7 +9,7 @@ use basis::ErrorCode;
 ghost use mathlib.Core.Path.{_≡_};
 ghost use lib.ListN.{length};
 ghost use Rattle.basis.specs.Outcome.{bytesOutcome, bufferAfter};
-ghost use Rattle.base32.specs.Alphabet.{lace, valuesOf};
+ghost use Rattle.alphabet.specs.Alphabet.{lace, valuesOf};
 ghost use Rattle.base32.specs.Base32.{charactersOf, toOctets};
 ghost use Rattle.base32.specs.Answer.{encodeOutcome, decodeOutcome};
 
@@ -35,7 +35,7 @@ pub fn decode(characters: &[u8], octets: &mut [u8]) -> BytesAnswer
     ensures { λ r. ⌜ now (octets .exit) ≡ bufferAfter (decodeOutcome (now (characters .entry)) (length (now (octets .entry)))) (toOctets (valuesOf lace (now (characters .entry)))) (now (octets .entry)) ⌝ }
 {
     let n = octets::octet_count(characters.len());
-    let bad = alphabet::first_outside_lace(characters);
+    let bad = outside::first_outside_lace(characters);
     let lawful = octets::length_lawful(characters.len());
     if octets.len() < n {
         return BytesAnswer::Error {

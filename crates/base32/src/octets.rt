@@ -4,7 +4,7 @@ ghost use mathlib.Core.List.{_++_};
 ghost use Prim.Native.Nat.{_*_, _≤_, _<_, _^_};
 ghost use lib.ListN.{length, drop};
 ghost use Rattle.basis.specs.Rows.{at};
-ghost use Rattle.base32.specs.Alphabet.{lace, valuesOf};
+ghost use Rattle.alphabet.specs.Alphabet.{lace, valuesOf};
 ghost use Rattle.base32.specs.Bits.{regroup};
 ghost use Rattle.base32.specs.Form.{octetCount, lengthLawful};
 ghost use Rattle.base32.specs.Base32.{toOctets};
@@ -37,7 +37,7 @@ fn value_at(characters: &[u8], i: usize) -> usize
     ensures { λ r. ⌜ r ≤ 32 ⌝ }
 {
     if i < characters.len() {
-        crate::alphabet::lace_value(characters[i]) as usize
+        alphabet::lace_value(characters[i]) as usize
     } else {
         0
     }

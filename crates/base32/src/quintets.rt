@@ -4,7 +4,7 @@ ghost use mathlib.Core.List.{_++_};
 ghost use Prim.Native.Nat.{_*_, _≤_, _<_, _^_};
 ghost use lib.ListN.{length, drop};
 ghost use Rattle.basis.specs.Rows.{at};
-ghost use Rattle.base32.specs.Alphabet.{lace};
+ghost use Rattle.alphabet.specs.Alphabet.{lace};
 ghost use Rattle.base32.specs.Bits.{regroup};
 ghost use Rattle.base32.specs.Base32.{quintetCount, charactersOf};
 
@@ -46,7 +46,7 @@ pub(crate) fn put_characters(octets: &[u8], n: usize, characters: &mut [u8])
 {
     let mut i = 0;
     while i < n {
-        characters[i] = crate::alphabet::lace_character(quintet(octets, i));
+        characters[i] = alphabet::lace_character(quintet(octets, i));
         i += 1;
     }
 }

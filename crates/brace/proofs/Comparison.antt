@@ -12,7 +12,7 @@ use native.Mathlib.Omega.{arith}
 use Rattle.basis.specs.Tests.{both}
 use Rattle.basis.specs.Outcome.{Outcome, done, refused, countOf, bufferAfter}
 use Rattle.basis.proofs.Parts.{front-is, front-fits}
-use Rattle.base32.specs.Alphabet.{brace, valueOf}
+use Rattle.alphabet.specs.Alphabet.{brace, valueOf}
 use Rattle.copying.proofs.Bytes.{spelled-length}
 use Rattle.copying.specs.Symbols.{isFor, areFor}
 use Rattle.brace_format.specs.Signature.{signature, isSigned}

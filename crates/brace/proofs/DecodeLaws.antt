@@ -15,7 +15,7 @@ use Rattle.basis.proofs.Parts.{front-is, front-fits}
 use Rattle.basis.proofs.Outcome.{pass-if, pass-below, stop-given, pass-given, done-count, done-not-refused}
 use Rattle.ascii.specs.Ldh.{isLdh, isAllLdh, hasEdgeHyphen}
 use Rattle.labels.proofs.FirstTests.{LabelPassed, label-passes}
-use Rattle.base32.specs.Alphabet.{brace}
+use Rattle.alphabet.specs.Alphabet.{brace}
 use Rattle.copying.specs.Symbols.{areFor}
 use Rattle.brace_format.specs.Signature.{isSigned}
 use Rattle.brace_symbols.specs.Encoding.{symbolsOf}

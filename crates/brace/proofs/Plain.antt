@@ -15,7 +15,7 @@ use Rattle.ascii.specs.Ldh.{isLdh, isAllLdh, hasEdgeHyphen, isHostLabel}
 use Rattle.ascii.proofs.Ldh.{ldh-above}
 use Rattle.utf16.specs.Units.{isHigh, isLow, unpairedAt, firstUnpaired}
 use Rattle.utf16.proofs.Surrogates.{unpaired-plain}
-use Rattle.base32.specs.Alphabet.{brace}
+use Rattle.alphabet.specs.Alphabet.{brace}
 use Rattle.copying.specs.Symbols.{capital, isFor, areFor}
 use Rattle.copying.proofs.Bytes.{ldh-from, ldh-bytes}
 use Rattle.brace_format.specs.Signature.{isSigned}

@@ -9,7 +9,7 @@ use Rattle.basis.specs.Outcome.{Outcome, done, refused, refusedIf}
 use Rattle.ascii.specs.Ldh.{isLdh, hasEdgeHyphen}
 use Rattle.utf16.specs.Units.{firstUnpaired}
 use Rattle.labels.specs.Tests.{labelTests}
-use Rattle.base32.specs.Alphabet.{brace}
+use Rattle.alphabet.specs.Alphabet.{brace}
 use Rattle.copying.specs.Symbols.{areFor}
 use Rattle.brace_format.specs.Signature.{isSigned}
 use Rattle.brace_symbols.specs.Encoding.{symbolsOf, labelOf}

@@ -1,10 +1,9 @@
 // The bytes of symbols: a quintet's character as a capital, a copied byte itself.
-use base32::alphabet;
 ghost use mathlib.Core.Path.{_≡_};
 ghost use mathlib.Core.List.{_++_};
 ghost use Prim.Native.Nat.{_≤_};
 ghost use lib.ListN.{length, drop};
-ghost use Rattle.base32.specs.Alphabet.{brace};
+ghost use Rattle.alphabet.specs.Alphabet.{brace};
 ghost use Rattle.copying.specs.Symbols.{capital, byteOf, bytesOf};
 
 // The capital form of a to z, any other byte itself.

@@ -1,5 +1,4 @@
 // Reading a label: the text of its body, and the test by writing again.
-use base32::alphabet;
 use basis::ErrorCode;
 use utf16::UnitCount;
 use utf16::UnitsAnswer;
@@ -11,7 +10,7 @@ ghost use lib.ListN.{length, drop};
 ghost use Rattle.basis.specs.Tests.{both};
 ghost use Rattle.basis.specs.Outcome.{bufferAfter};
 ghost use Rattle.utf16.specs.Answer.{unitsOutcome};
-ghost use Rattle.base32.specs.Alphabet.{brace};
+ghost use Rattle.alphabet.specs.Alphabet.{brace};
 ghost use Rattle.copying.specs.Symbols.{isFor, areFor};
 ghost use Rattle.brace_format.specs.Signature.{isSigned};
 ghost use Rattle.brace_symbols.specs.Encoding.{symbolsOf};

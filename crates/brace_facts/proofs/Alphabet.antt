@@ -4,8 +4,8 @@ use mathlib.Core.Bool.{true}
 use Rattle.basis.specs.Tests.{both, within, every}
 use Rattle.ascii.specs.Case.{isCapital, small}
 use Rattle.ascii.specs.Ldh.{isLdh}
-use Rattle.base32.specs.Alphabet.{brace, characterOf}
-use Rattle.base32.proofs.Inverse.{brace-alphabet}
+use Rattle.alphabet.specs.Alphabet.{brace, characterOf}
+use Rattle.alphabet.proofs.Inverse.{brace-alphabet}
 use Rattle.copying.specs.Symbols.{capital, Written}
 
 pub brace-written : Written brace capital

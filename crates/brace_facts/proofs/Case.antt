@@ -11,7 +11,7 @@ use Rattle.ascii.specs.Case.{small}
 use Rattle.ascii.specs.Ldh.{isLdh, isAllLdh, isHostLabel}
 use Rattle.ascii.proofs.Case.{small-small, all-small}
 use Rattle.ascii.proofs.EdgeHyphen.{small-keeps-hyphen, edges-map}
-use Rattle.base32.specs.Alphabet.{brace}
+use Rattle.alphabet.specs.Alphabet.{brace}
 use Rattle.copying.specs.Symbols.{byteOf, bytesOf, capital, isFor, areFor, quintetOf}
 use Rattle.copying.specs.declared.Mode.{Mode}
 use Rattle.copying.specs.Modes.{copyingAfter, isCopied, isCoded, isSecond, nextMode}

@@ -17,7 +17,7 @@ use Rattle.ascii.proofs.Codec.{ReadAlike}
 use Rattle.ascii.proofs.EdgeHyphen.{edges-iff}
 use Rattle.labels.specs.Causes.{Empty}
 use Rattle.labels.specs.Causes as labels
-use Rattle.base32.specs.Alphabet.{brace}
+use Rattle.alphabet.specs.Alphabet.{brace}
 use Rattle.copying.specs.Symbols.{areFor, capital}
 use Rattle.copying.proofs.Facts.{same-spelled, same-text, same-length, same-edges, faithful, alike}
 use Rattle.brace_format.specs.Signature.{signature, isSigned}

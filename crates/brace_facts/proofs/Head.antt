@@ -7,7 +7,7 @@ use lib.ListN.{drop}
 use native.Mathlib.Nat.{div-eq-of-lt}
 use native.Mathlib.Omega.{arith}
 use Rattle.basis.specs.Rows.{at}
-use Rattle.base32.specs.Alphabet.{brace}
+use Rattle.alphabet.specs.Alphabet.{brace}
 use Rattle.copying.specs.Symbols.{areFor, quintetOf, quintets}
 use Rattle.copying.proofs.Modes.{modeOf}
 use Rattle.copying.proofs.Heads.{head-first, head-number, head-rest}

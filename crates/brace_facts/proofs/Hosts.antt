@@ -14,7 +14,7 @@ use Rattle.basis.proofs.Tests.{cases, by-lt, both-left, both-right, true-not-fa
 use Rattle.basis.proofs.Lists.{below-none, below-more}
 use Rattle.ascii.specs.Ldh.{isLdh}
 use Rattle.ascii.proofs.Ldh.{ldh-above}
-use Rattle.base32.specs.Alphabet.{brace}
+use Rattle.alphabet.specs.Alphabet.{brace}
 use Rattle.copying.specs.Symbols.{areFor, quintetOf}
 use Rattle.copying.specs.declared.Mode.{Mode}
 use Rattle.copying.specs.declared.Mode.the-variants.{Coded}

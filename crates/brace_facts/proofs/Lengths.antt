@@ -10,7 +10,7 @@ use Rattle.basis.specs.Tests.{pick}
 use Rattle.basis.specs.Rows.{AllBelow}
 use Rattle.basis.proofs.Tests.{cases}
 use Rattle.ascii.specs.Ldh.{isLdh}
-use Rattle.base32.specs.Alphabet.{brace}
+use Rattle.alphabet.specs.Alphabet.{brace}
 use Rattle.copying.specs.Symbols.{byteOf, bytesOf, capital}
 use Rattle.copying.specs.Modes.{copyingAfter}
 use Rattle.copying.proofs.Lengths.{length-quintets, length-switch}

@@ -29,7 +29,7 @@ use Rattle.utf16.proofs.Refusals.{points-text, text-iff}
 use Rattle.labels.specs.Tests.{textTests}
 use Rattle.labels.specs.Causes.{Empty}
 use Rattle.labels.proofs.Causes.{TextAndLabel, some-iff}
-use Rattle.base32.specs.Alphabet.{brace}
+use Rattle.alphabet.specs.Alphabet.{brace}
 use Rattle.copying.specs.Symbols.{capital}
 use Rattle.copying.proofs.Same.{same-label, bytes-spell}
 use Rattle.brace_symbols.specs.Encoding as encoding

@@ -6,7 +6,7 @@ use Rattle.ascii.specs.Case.{isCapital, small}
 use Rattle.ascii.specs.Ldh.{isLdh, isAllLdh, hasEdgeHyphen, isHostLabel}
 use Rattle.utf16.specs.Units.{isHigh, isLow, isUnpaired, unpairedAt, firstUnpaired}
 use Rattle.labels.specs.Tests.{labelTests}
-use Rattle.base32.specs.Alphabet.{brace, characterOf, valueOf}
+use Rattle.alphabet.specs.Alphabet.{brace, characterOf, valueOf}
 use Rattle.copying.specs.Symbols.{byteOf, bytesOf, capital, headNumber, isFor, areFor, quintetOf, quintets}
 use Rattle.copying.specs.Modes.{afterHyphen, afterOther, copyingAfter, isCopied, isCoded, isSecond, nextMode, switchIf}
 use Rattle.brace_format.specs.Signature.{signature, isSigned}

@@ -11,7 +11,7 @@ use Rattle.basis.specs.Tests.{everyIn}
 use Rattle.basis.specs.Rows.{at, AllBelow}
 use Rattle.basis.proofs.Tests.{cases, both-left, both-right}
 use Rattle.ascii.specs.Ldh.{isLdh, isAllLdh, isHostLabel}
-use Rattle.base32.specs.Alphabet.{brace}
+use Rattle.alphabet.specs.Alphabet.{brace}
 use Rattle.copying.specs.Symbols.{areFor}
 use Rattle.copying.proofs.Bytes.{spelled-length, spelled-left, spelled-right, ldh-spelled}
 use Rattle.copying.proofs.Elements.{AllOf}

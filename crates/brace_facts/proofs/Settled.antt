@@ -18,7 +18,7 @@ use Rattle.ascii.specs.Ldh.{isLdh}
 use Rattle.ascii.proofs.EdgeHyphen.{edges-iff}
 use Rattle.utf16.specs.Units.{firstUnpaired, unpairedAt}
 use Rattle.labels.proofs.FirstTests.{settle-label}
-use Rattle.base32.specs.Alphabet.{brace}
+use Rattle.alphabet.specs.Alphabet.{brace}
 use Rattle.copying.specs.Symbols.{capital}
 use Rattle.copying.proofs.Same.{same-label}
 use Rattle.copying.proofs.Facts.{CopyingFacts, no-text-iff}

@@ -8,7 +8,7 @@ use borrow.Author.Tests.{le-leb, lt-leb}
 use native.Mathlib.Omega.{arith}
 use Rattle.basis.specs.Tests.{pick, both}
 use Rattle.basis.proofs.Tests.{both-left, both-right, true-not-false}
-use Rattle.base32.specs.Alphabet.{brace}
+use Rattle.alphabet.specs.Alphabet.{brace}
 use Rattle.copying.specs.Symbols.{isFor, areFor}
 use Rattle.copying.specs.declared.Mode.{Mode}
 use Rattle.copying.specs.Modes.{afterHyphen, afterOther, isCopied, isCoded, isSecond, nextMode}

@@ -13,7 +13,7 @@ use Rattle.utf16.specs.Units.{toUnits}
 use Rattle.utf16.specs.Causes.{UnpairedAt}
 use Rattle.labels.specs.Causes.{Empty}
 use Rattle.labels.specs.Causes as labels
-use Rattle.base32.specs.Alphabet.{brace}
+use Rattle.alphabet.specs.Alphabet.{brace}
 use Rattle.copying.specs.Symbols.{SameLabel, capital}
 use Rattle.brace_format.specs.Signature.{signature}
 use Rattle.brace_symbols.specs.Encoding.{symbolsOf, labelOf}

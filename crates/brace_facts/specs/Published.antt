@@ -6,7 +6,7 @@ use mathlib.Core.List.{List, [], _∷_, _++_, map}
 use lib.ListN.{length}
 use Rattle.basis.specs.Tests.{both}
 use Rattle.basis.specs.Outcome.{done}
-use Rattle.base32.specs.Alphabet.{brace}
+use Rattle.alphabet.specs.Alphabet.{brace}
 use Rattle.copying.specs.Symbols.{areFor}
 use Rattle.brace_symbols.specs.Encoding.{symbolsOf, labelOf}
 use Rattle.brace_text.specs.Decoding.{textOf}

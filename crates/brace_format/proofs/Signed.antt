@@ -13,7 +13,7 @@ use Rattle.basis.specs.Rows.{at}
 use Rattle.basis.proofs.Tests.{both-false, at-each, first-none}
 use Rattle.ascii.specs.Case.{small}
 use Rattle.ascii.proofs.Case.{small-above}
-use Rattle.base32.specs.Alphabet.{brace, valueOf}
+use Rattle.alphabet.specs.Alphabet.{brace, valueOf}
 use Rattle.copying.specs.Symbols.{isFor, areFor}
 use Rattle.brace_format.specs.Signature.{signature, isSigned}
 

@@ -1,8 +1,7 @@
 // The signature at the end of every label that is not plain.
-use base32::alphabet;
 ghost use mathlib.Core.Path.{_≡_};
 ghost use mathlib.Core.List.{[], _∷_};
-ghost use Rattle.base32.specs.Alphabet.{brace, valueOf};
+ghost use Rattle.alphabet.specs.Alphabet.{brace, valueOf};
 ghost use Rattle.copying.specs.Symbols.{areFor};
 ghost use Rattle.brace_format.specs.Signature.{signature};
 

@@ -12,7 +12,7 @@ use Rattle.basis.specs.Tests.{both, within, every}
 use Rattle.basis.specs.Rows.{at}
 use Rattle.basis.proofs.Tests.{cases, both-right, at-each}
 use Rattle.ascii.specs.Ldh.{isAllLdh, hasEdgeHyphen, isHostLabel}
-use Rattle.base32.specs.Alphabet.{brace, characterOf}
+use Rattle.alphabet.specs.Alphabet.{brace, characterOf}
 use Rattle.copying.specs.Symbols.{byteOf, bytesOf, capital, quintets}
 use Rattle.copying.proofs.Bytes.{ldh-bytes}
 use Rattle.brace_format.specs.declared.style.Style.{Style}

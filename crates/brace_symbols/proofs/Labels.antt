@@ -16,7 +16,7 @@ use Rattle.basis.proofs.Outcome.{stop-if, pass-if, stop-below, pass-below, stop
 use Rattle.basis.proofs.Stores.{Storing, storing-all, storing-more, storing-piece, storing-none, stored-one}
 use Rattle.utf16.specs.Units.{firstUnpaired}
 use Rattle.ascii.specs.Ldh.{isLdh, isAllLdh}
-use Rattle.base32.specs.Alphabet.{brace}
+use Rattle.alphabet.specs.Alphabet.{brace}
 use Rattle.copying.specs.Symbols.{byteOf, bytesOf, capital}
 use Rattle.brace_format.specs.declared.style.Style.{Style}
 use Rattle.brace_format.specs.Signature.{signature}

@@ -7,7 +7,7 @@ use mathlib.Core.List.{List, [], _∷_, _++_}
 use lib.Dec.{eqb}
 use Rattle.basis.specs.Tests.{pick, both}
 use Rattle.ascii.specs.Ldh.{isLdh, isHostLabel}
-use Rattle.base32.specs.Alphabet.{brace}
+use Rattle.alphabet.specs.Alphabet.{brace}
 use Rattle.copying.specs.Symbols.{bytesOf, capital, quintets}
 use Rattle.copying.specs.Modes.{copyingAfter, switchIf}
 use Rattle.brace_format.specs.declared.style.Style.{Style}

@@ -14,7 +14,7 @@ use Rattle.basis.specs.Outcome.{done, refused, bufferAfter}
 use Rattle.basis.proofs.Tests.{cases}
 use Rattle.basis.proofs.Outcome.{done-leaves, stop-below, pass-below}
 use Rattle.ascii.specs.Case.{isCapital, small}
-use Rattle.base32.specs.Alphabet.{brace, valueOf}
+use Rattle.alphabet.specs.Alphabet.{brace, valueOf}
 use Rattle.copying.specs.Symbols.{quintetOf, headNumber}
 use Rattle.copying.specs.declared.Mode.the-variants.{Coded}
 use Rattle.brace_text.specs.Decoding.{textFrom, headLength, headSpare, headStyle, textBy, kindOf, bodyText}

@@ -15,7 +15,7 @@ use native.Mathlib.Omega.{arith}
 use Rattle.basis.specs.Tests.{both}
 use Rattle.basis.proofs.Tests.{cases}
 use Rattle.basis.proofs.Stores.{Storing, storing-all, storing-more, storing-none}
-use Rattle.base32.specs.Alphabet.{brace}
+use Rattle.alphabet.specs.Alphabet.{brace}
 use Rattle.copying.specs.Symbols.{quintetOf}
 use Rattle.copying.specs.Modes.{isCopied, isCoded, isSecond, nextMode}
 use Rattle.copying.specs.declared.Mode.{Mode}

@@ -8,7 +8,7 @@ use lib.Dec.{eqb, leb}
 use lib.ListN.{length, take, drop}
 use Rattle.basis.specs.Tests.{pick}
 use Rattle.basis.specs.Rows.{at}
-use Rattle.base32.specs.Alphabet.{brace}
+use Rattle.alphabet.specs.Alphabet.{brace}
 use Rattle.copying.specs.Symbols.{headNumber, quintetOf}
 use Rattle.copying.specs.Modes.{isCopied, isCoded, isSecond, nextMode}
 use Rattle.copying.specs.declared.Mode.{Mode}

@@ -1,5 +1,4 @@
 // Reading the text of a label's body: the head, and the queue of bits from which codes are taken.
-use base32::alphabet;
 use basis::ErrorCode;
 use brace_format::style;
 use brace_format::style::Style;
@@ -13,7 +12,7 @@ ghost use lib.ListN.{length, drop};
 ghost use lib.Seq.{sets};
 ghost use Rattle.basis.specs.Outcome.{bufferAfter};
 ghost use Rattle.utf16.specs.Answer.{unitsOutcome};
-ghost use Rattle.base32.specs.Alphabet.{brace};
+ghost use Rattle.alphabet.specs.Alphabet.{brace};
 ghost use Rattle.copying.specs.Symbols.{quintetOf, headNumber};
 ghost use Rattle.brace_format.specs.Style.{widthBy, unitOf};
 ghost use Rattle.brace_text.specs.Decoding.{dueWidth, countLeft, valueLeft, unitTaken, nextCount, nextValue, adds, textFrom, headLength, headSpare, headStyle, kindOf, bodyText};

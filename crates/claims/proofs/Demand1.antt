@@ -21,7 +21,7 @@ use Rattle.utf16.specs.Answer as utf16-answer
 use Rattle.utf16.proofs.BytePairs.{length-unitsOfBytes, length-bytesOfUnits, below-unitsOfBytes}
 use Rattle.utf16.proofs.Refusals.{to-units-settled, to-points-settled, points-to-bytes-settled, units-to-bytes-settled, bytes-to-units-settled, bytes-to-points-settled}
 use Rattle.utf16.proofs.RoundTrip.{units-text, length-toUnits, length-toPoints, length-bytesOf}
-use Rattle.base32.specs.Alphabet as alphabet
+use Rattle.alphabet.specs.Alphabet as alphabet
 use Rattle.base32.specs.Form.{octetCount}
 use Rattle.base32.specs.Base32.{charactersOf, toOctets}
 use Rattle.base32.specs.Answer as base32

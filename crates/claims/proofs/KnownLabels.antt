@@ -10,7 +10,7 @@ use Rattle.basis.proofs.Tests.{true-not-false, both-left, both-right}
 use Rattle.basis.specs.Rows.{tabulate}
 use Rattle.utf16.specs.Units.{unitsOf, toUnits}
 use Rattle.utf16.specs.Bytes.{bytesOfUnits}
-use Rattle.base32.specs.Alphabet as alphabet
+use Rattle.alphabet.specs.Alphabet as alphabet
 use Rattle.base32.specs.Bits.{bitOf, fromBits, rowBit, group, regroup}
 use Rattle.base32.specs.Base32.{toQuintets, charactersOf}
 use Rattle.altdude.specs.Symbols.{byteOf}

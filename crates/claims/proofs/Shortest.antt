@@ -15,7 +15,7 @@ use Rattle.utf16.specs.Units.{toUnits}
 use Rattle.utf16.specs.Bytes.{bytesOfUnits}
 use Rattle.utf16.proofs.BytePairs.{length-bytesOfUnits}
 use Rattle.utf16.proofs.RoundTrip.{text-units}
-use Rattle.base32.specs.Alphabet.{lace}
+use Rattle.alphabet.specs.Alphabet.{lace}
 use Rattle.base32.specs.Base32.{quintetCount}
 use Rattle.base32.proofs.Values.{length-charactersOf}
 use Rattle.lace.specs.Octets.{unitOf, Run, run, runUnits, changeBetween, changes, runCount}

@@ -17,7 +17,7 @@ use Rattle.utf16.specs.Units as utf16
 use Rattle.utf16.specs.Bytes.{unitsOfBytes, bytesOfUnits, pointsOf, bytesOf}
 use Rattle.utf16.specs.Answer as utf16-answer
 use Rattle.utf16.specs.Causes.{toUnitsCauses, toPointsCauses, pointsToBytesCauses, unitsToBytesCauses, bytesToUnitsCauses, bytesToPointsCauses}
-use Rattle.base32.specs.Alphabet as alphabet
+use Rattle.alphabet.specs.Alphabet as alphabet
 use Rattle.base32.specs.Form.{octetCount}
 use Rattle.base32.specs.Base32.{quintetCount, charactersOf, toOctets}
 use Rattle.base32.specs.Answer as base32

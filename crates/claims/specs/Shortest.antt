@@ -12,7 +12,7 @@ use Rattle.basis.specs.Rows.{AllBelow}
 use Rattle.utf16.specs.Points.{isText}
 use Rattle.utf16.specs.Units.{toUnits}
 use Rattle.utf16.specs.Bytes.{bytesOfUnits}
-use Rattle.base32.specs.Alphabet.{lace}
+use Rattle.alphabet.specs.Alphabet.{lace}
 use Rattle.base32.specs.Base32.{charactersOf}
 use Rattle.lace.specs.Prefix.{prefix}
 use Rattle.lace.specs.Octets.{Run, run, runUnits}

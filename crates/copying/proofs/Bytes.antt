@@ -14,8 +14,8 @@ use Rattle.basis.proofs.Tests.{by-lt, both-left, both-right, both-true, true-no
 use Rattle.ascii.proofs.Case.{small-below}
 use Rattle.ascii.specs.Ldh.{isLdh}
 use Rattle.ascii.proofs.Ldh.{ldh-under}
-use Rattle.base32.specs.Alphabet.{valueOf, isAlphabet}
-use Rattle.base32.proofs.Inverse.{character-no-hyphen, character-value}
+use Rattle.alphabet.specs.Alphabet.{valueOf, isAlphabet}
+use Rattle.alphabet.proofs.Inverse.{character-no-hyphen, character-value}
 use Rattle.copying.specs.Symbols.{byteOf, bytesOf, isFor, areFor, quintetOf}
 
 -- an LDH element is 45 or more

@@ -12,8 +12,8 @@ use Rattle.ascii.proofs.Case.{small-inside, small-below, small-above, small-sma
 use Rattle.ascii.proofs.EdgeHyphen.{small-keeps-hyphen}
 use Rattle.ascii.specs.Ldh.{isLdh}
 use Rattle.ascii.proofs.Ldh.{ldh-capital, ldh-small}
-use Rattle.base32.specs.Alphabet.{valueOf}
-use Rattle.base32.proofs.Inverse.{value-same}
+use Rattle.alphabet.specs.Alphabet.{valueOf}
+use Rattle.alphabet.proofs.Inverse.{value-same}
 use Rattle.copying.specs.Symbols.{byteOf, bytesOf, quintetOf, quintets, headNumber}
 use Rattle.copying.specs.Modes.{nextMode, switchIf, copyingAfter}
 use Rattle.copying.specs.declared.Mode.{Mode}

@@ -8,8 +8,8 @@ use native.Mathlib.Omega.{arith}
 use Rattle.basis.specs.Tests.{every, everyIn}
 use Rattle.basis.proofs.Tests.{both-left, both-right, both-true, true-not-false, at-each}
 use Rattle.ascii.specs.Ldh.{isLdh}
-use Rattle.base32.specs.Alphabet.{characterOf, isAlphabet}
-use Rattle.base32.proofs.Inverse.{character-value}
+use Rattle.alphabet.specs.Alphabet.{characterOf, isAlphabet}
+use Rattle.alphabet.proofs.Inverse.{character-value}
 use Rattle.copying.specs.Symbols.{isFor, areFor, quintets}
 use Rattle.copying.specs.Modes.{switchIf}
 use Rattle.copying.proofs.Bytes.{copied-is, coded-value, hyphen-ldh, ldh-from}

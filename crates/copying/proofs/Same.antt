@@ -12,8 +12,8 @@ use Rattle.basis.specs.Rows.{at}
 use Rattle.ascii.specs.Case.{small}
 use Rattle.basis.proofs.Tests.{by-lt, at-each, both-left, both-right, both-true, true-not-false, from-first}
 use Rattle.ascii.proofs.Case.{small-small, same-letter, letter-same}
-use Rattle.base32.specs.Alphabet.{characterOf, valueOf}
-use Rattle.base32.proofs.Inverse.{value-same, value-character, character-value}
+use Rattle.alphabet.specs.Alphabet.{characterOf, valueOf}
+use Rattle.alphabet.proofs.Inverse.{value-same, value-character, character-value}
 use Rattle.copying.specs.Symbols.{byteOf, bytesOf, isFor, areFor, SameSymbol, SameLabel, Written}
 use Rattle.copying.proofs.Bytes.{copied-is, coded-value, spelled-length}
 

@@ -9,7 +9,7 @@ use lib.ListN.{length}
 use Rattle.basis.specs.Tests.{pick, both, within, every}
 use Rattle.basis.specs.Rows.{at}
 use Rattle.ascii.specs.Case.{small, SameLetter}
-use Rattle.base32.specs.Alphabet.{characterOf, valueOf, isAlphabet}
+use Rattle.alphabet.specs.Alphabet.{characterOf, valueOf, isAlphabet}
 
 -- the capital form of a small letter, any other byte itself
 unfoldable pub capital : ℕ → ℕ

@@ -35,7 +35,7 @@ use Rattle.utf16.proofs.Refusals.{all-done}
 use Rattle.labels.proofs.FirstTests.{LabelPassed, label-passes}
 use Rattle.utf16.specs.Bytes.{unitsOfBytes}
 use Rattle.utf16.proofs.BytePairs.{length-unitsOfBytes}
-use Rattle.base32.specs.Alphabet.{lace, valuesOf}
+use Rattle.alphabet.specs.Alphabet.{lace, valuesOf}
 use Rattle.base32.specs.Form.{octetCount, isLawful}
 use Rattle.base32.specs.Base32.{toOctets}
 use Rattle.base32.specs.Answer.{firstOutside}

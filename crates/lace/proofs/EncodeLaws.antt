@@ -21,7 +21,7 @@ use Rattle.utf16.proofs.RoundTrip.{some-toUnits}
 use Rattle.utf16.specs.Bytes.{bytesOfUnits}
 use Rattle.utf16.proofs.BytePairs.{length-bytesOfUnits}
 use Rattle.utf16.proofs.Refusals.{bytes-done}
-use Rattle.base32.specs.Alphabet.{lace}
+use Rattle.alphabet.specs.Alphabet.{lace}
 use Rattle.base32.specs.Base32.{quintetCount, charactersOf}
 use Rattle.base32.specs.Answer as base32
 use Rattle.base32.proofs.Values.{length-charactersOf}

@@ -7,7 +7,7 @@ use lib.ListN.{length}
 use Rattle.basis.specs.Outcome.{Outcome, done, refusedIf}
 use Rattle.ascii.specs.Prefix.{hasPrefix, afterPrefix}
 use Rattle.labels.specs.Tests.{textTests, labelTests}
-use Rattle.base32.specs.Alphabet.{lace}
+use Rattle.alphabet.specs.Alphabet.{lace}
 use Rattle.base32.specs.Answer.{firstOutside}
 use Rattle.lace.specs.Prefix.{prefix}
 use Rattle.lace.specs.Encoding.{labelOf}

@@ -8,7 +8,7 @@ use Rattle.basis.specs.Tests.{pick, both}
 use Rattle.basis.specs.Rows.{at}
 use Rattle.ascii.specs.Prefix.{afterPrefix}
 use Rattle.utf16.specs.Units.{toPoints, firstUnpaired}
-use Rattle.base32.specs.Alphabet.{lace, valuesOf}
+use Rattle.alphabet.specs.Alphabet.{lace, valuesOf}
 use Rattle.base32.specs.Form.{isLawful}
 use Rattle.base32.specs.Base32.{toOctets}
 use Rattle.utf16.specs.Bytes.{unitsOfBytes}

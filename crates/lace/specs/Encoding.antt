@@ -5,7 +5,7 @@ use lib.Dec.{eqb, leb}
 use lib.ListN.{length}
 use Rattle.basis.specs.Tests.{pick}
 use Rattle.utf16.specs.Units.{toUnits}
-use Rattle.base32.specs.Alphabet.{lace}
+use Rattle.alphabet.specs.Alphabet.{lace}
 use Rattle.base32.specs.Base32.{charactersOf}
 use Rattle.utf16.specs.Bytes.{bytesOfUnits}
 use Rattle.lace.specs.Prefix.{prefix}

@@ -11,7 +11,7 @@ ghost use Prim.Native.Nat.{_+_, _*_, _/_, _≤_, _<_};
 ghost use lib.ListN.{length, drop};
 ghost use lib.Seq.{sets};
 ghost use Rattle.basis.specs.Outcome.{bytesOutcome, done, bufferAfter};
-ghost use Rattle.base32.specs.Alphabet.{lace};
+ghost use Rattle.alphabet.specs.Alphabet.{lace};
 ghost use Rattle.base32.specs.Base32.{quintetCount, charactersOf};
 ghost use Rattle.utf16.specs.Bytes.{bytesOfUnits};
 ghost use Rattle.lace.specs.Prefix.{prefix};

@@ -23,10 +23,10 @@ use Rattle.utf16.specs.Units.{toUnits, toPoints, firstUnpaired}
 use Rattle.utf16.proofs.Surrogates.{units-small, units-big}
 use Rattle.utf16.proofs.RoundTrip.{points-back, text-paired, text-units, units-back, units-text, length-toUnits}
 use Rattle.labels.proofs.Causes.{some-iff, short-iff, TextAndLabel, writable-iff}
-use Rattle.base32.specs.Alphabet.{lace, isCharacter}
+use Rattle.alphabet.specs.Alphabet.{lace, isCharacter}
 use Rattle.base32.specs.Base32.{charactersOf}
 use Rattle.base32.specs.Answer.{firstOutside}
-use Rattle.base32.proofs.Inverse.{lace-alphabet}
+use Rattle.alphabet.proofs.Inverse.{lace-alphabet}
 use Rattle.base32.proofs.RoundTrip.{written-inside, written-lawful, written-read, read-written}
 use Rattle.lace.specs.Prefix.{prefix}
 use Rattle.lace.specs.Encoding.{octetsOf, labelOf}

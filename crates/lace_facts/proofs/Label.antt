@@ -18,12 +18,12 @@ use Rattle.ascii.proofs.Case.{small-small, at-small}
 use Rattle.ascii.proofs.Prefix.{prefix-small, after-small}
 use Rattle.utf16.specs.Units.{unpairedAt, firstUnpaired}
 use Rattle.utf16.proofs.RoundTrip.{length-toPoints}
-use Rattle.base32.specs.Alphabet.{lace, valueOf, isCharacter, valuesOf}
+use Rattle.alphabet.specs.Alphabet.{lace, valueOf, isCharacter, valuesOf}
 use Rattle.base32.specs.Bits.{bitOf, rowBit, group, regroup}
 use Rattle.base32.specs.Form.{octetCount, lengthLawful, isLawful}
 use Rattle.base32.specs.Base32.{quintetCount, toOctets}
 use Rattle.base32.specs.Answer.{firstOutside}
-use Rattle.base32.proofs.Inverse.{value-same}
+use Rattle.alphabet.proofs.Inverse.{value-same}
 use Rattle.base32.proofs.Bits.{fromBits-same, rowBit-lt, bits-back, row-back}
 use Rattle.base32.proofs.Regroup.{length-toOctets, toOctets-below, count-lawful}
 use Rattle.base32.proofs.Values.{length-values, octets-tabulate}

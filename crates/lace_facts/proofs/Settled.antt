@@ -12,7 +12,7 @@ use Rattle.basis.proofs.Tests.{ltb-iff, fails-iff}
 use Rattle.basis.proofs.Causes.{settle-whole, settle-place, settle-done}
 use Rattle.ascii.specs.Prefix.{hasPrefix, afterPrefix}
 use Rattle.labels.proofs.FirstTests.{settle-text, settle-label}
-use Rattle.base32.specs.Alphabet.{lace, isCharacter}
+use Rattle.alphabet.specs.Alphabet.{lace, isCharacter}
 use Rattle.base32.specs.Answer.{firstOutside}
 use Rattle.lace.specs.Prefix.{prefix}
 use Rattle.lace.specs.Encoding.{labelOf}

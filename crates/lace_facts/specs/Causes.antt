@@ -10,7 +10,7 @@ use Rattle.ascii.specs.Prefix.{afterPrefix}
 use Rattle.ascii.specs.Ldh.{isHostLabel}
 use Rattle.labels.specs.Causes.{TooLong}
 use Rattle.labels.specs.Causes as labels
-use Rattle.base32.specs.Alphabet.{lace}
+use Rattle.alphabet.specs.Alphabet.{lace}
 use Rattle.base32.specs.Causes.{OutsideAt}
 use Rattle.lace.specs.Prefix.{prefix}
 use Rattle.lace.specs.Encoding.{labelOf}

@@ -10,7 +10,7 @@ use Rattle.ascii.specs.Case.{small}
 use Rattle.ascii.specs.Prefix.{afterPrefix}
 use Rattle.ascii.specs.Ldh.{isHostLabel}
 use Rattle.utf16.specs.Surrogates.{unpairedAt}
-use Rattle.base32.specs.Alphabet.{lace, isCharacter, valuesOf}
+use Rattle.alphabet.specs.Alphabet.{lace, isCharacter, valuesOf}
 use Rattle.base32.specs.Bits.{rowBit}
 use Rattle.base32.specs.Form.{octetCount, lengthLawful, spareZero}
 use Rattle.lace.specs.Prefix.{prefix}

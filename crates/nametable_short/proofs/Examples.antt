@@ -12,7 +12,7 @@ use Rattle.ascii.specs.Prefix.{hasPrefix}
 use Rattle.utf16.specs.Points.{isPoint}
 use Rattle.utf16.specs.Units as utf16
 use Rattle.utf16.specs.Bytes.{unitsOfBytes}
-use Rattle.base32.specs.Alphabet as alphabet
+use Rattle.alphabet.specs.Alphabet as alphabet
 use Rattle.base32.specs.Bits.{bitOf, fromBits, rowBit, group, regroup}
 use Rattle.base32.specs.Form.{lengthLawful, spareZero, isLawful}
 use Rattle.base32.specs.Base32.{toOctets}

@@ -7,7 +7,7 @@ use borrow.Author.Needs.{needs}
 use borrow.Author.Tests.{not-true, not-false, eq-eqb, ne-eqb}
 use Rattle.basis.specs.Outcome.{done, bytesOutcome}
 use Rattle.basis.proofs.Outcome.{stop-if, pass-if, stop-short, pass-short, stop-found, pass-found, refused-leaves, done-leaves}
-use Rattle.base32.specs.Alphabet.{lace, valuesOf}
+use Rattle.alphabet.specs.Alphabet.{lace, valuesOf}
 use Rattle.base32.specs.Answer.{decodeOutcome}
 use Rattle.base32.proofs.Form.{length-unlawful, octet-lawful}
 use Rattle.base32.proofs.Values.{length-values, none-outside}

@@ -3,7 +3,7 @@ use native.Mathlib.Omega.{arith}
 use borrow.Author.Needs.{needs}
 use Rattle.basis.specs.Rows.{at}
 use Rattle.basis.proofs.Lists.{row-below}
-use Rattle.base32.specs.Alphabet.{lace, valuesOf}
+use Rattle.alphabet.specs.Alphabet.{lace, valuesOf}
 use Rattle.base32.proofs.Values.{values-below}
 use Rattle.base32.proofs.Windows.{octet-window}
 use Rattle.base32.proofs.octets.octet.Statement.{statement}

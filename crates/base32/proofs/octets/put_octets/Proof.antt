@@ -7,7 +7,7 @@ use lib.ListN.{length, drop, length-set}
 use borrow.Author.Needs.{needs}
 use Rattle.basis.specs.Rows.{at, tabulate}
 use Rattle.basis.proofs.Lists.{fill-more, fill-done}
-use Rattle.base32.specs.Alphabet.{lace, valuesOf}
+use Rattle.alphabet.specs.Alphabet.{lace, valuesOf}
 use Rattle.base32.specs.Bits.{regroup}
 use Rattle.base32.proofs.Values.{octets-tabulate}
 use Rattle.base32.proofs.octets.put_octets.Statement.{statement}

@@ -4,8 +4,8 @@ use native.Mathlib.Omega.{arith}
 use borrow.Author.Needs.{needs}
 use Rattle.basis.specs.Rows.{at}
 use Rattle.basis.proofs.Lists.{at-past}
-use Rattle.base32.specs.Alphabet.{lace, valuesOf}
-use Rattle.base32.proofs.Inverse.{value-le, lace-alphabet}
+use Rattle.alphabet.specs.Alphabet.{lace, valuesOf}
+use Rattle.alphabet.proofs.Inverse.{value-le, lace-alphabet}
 use Rattle.base32.proofs.Values.{length-values, at-values}
 use Rattle.base32.proofs.octets.value_at.Statement.{statement}
 use Rattle.base32.proofs.octets.value_at.Tie as tie

@@ -4,7 +4,7 @@ use lib.ListN.{length, drop}
 use native.Mathlib.Omega.{arith}
 use borrow.Author.Needs.{needs}
 use Rattle.basis.proofs.Stores.{Storing, storing-all}
-use Rattle.base32.specs.Alphabet.{brace}
+use Rattle.alphabet.specs.Alphabet.{brace}
 use Rattle.copying.specs.Symbols.{capital, bytesOf}
 use Rattle.brace_symbols.proofs.Labels.{row-turn, row-end, length-bytes, byte-at}
 use Rattle.brace.proofs.bytes.put_bytes.Statement.{statement}

@@ -1,0 +1,3 @@
+-- The laws of alphabets.
+pub mod Inverse
+pub mod Ranges
