@@ -1,6 +1,6 @@
 // Reading a label symbol by symbol.
 use crate::symbols;
-use utf16::points;
+use surrogates::points;
 ghost use mathlib.Core.Path.{_≡_};
 ghost use mathlib.Core.Bool.{true};
 ghost use mathlib.Core.List.{_++_, map};

@@ -22,7 +22,7 @@ pub fn put_symbols(units: &[u16], symbols: &mut [u8]) -> BytesAnswer
     if units.len() == 0 {
         return basis::bytes_error(ErrorCode::Empty, 0);
     }
-    let unpaired = utf16::units::first_unpaired(units);
+    let unpaired = surrogates::units::first_unpaired(units);
     if unpaired < units.len() {
         return basis::bytes_error(ErrorCode::UnpairedSurrogate, unpaired);
     }

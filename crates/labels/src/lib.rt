@@ -42,7 +42,7 @@ pub fn check_text(text: &[u32], capacity: usize) -> Check
         }
         Check::Passed => {}
     }
-    let bad = utf16::points::first_not_point(text);
+    let bad = surrogates::points::first_not_point(text);
     if bad < text.len() {
         return Check::Error {
             code: ErrorCode::NotAPoint,

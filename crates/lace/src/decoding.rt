@@ -188,7 +188,7 @@ pub(crate) fn decode_octets(octets: &[u8], text: &mut [u32]) -> PointsAnswer
     let n = put_units(octets, &mut units);
     let row = &units[..n];
     let meant = stand_for_units(octets, row);
-    let unpaired = utf16::units::first_unpaired(row);
+    let unpaired = surrogates::units::first_unpaired(row);
     let host_label = ascii::units_are_host_label(row);
     if !meant {
         return utf16::points_error(ErrorCode::NotWellFormed, 0);

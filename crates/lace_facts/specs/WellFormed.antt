@@ -9,7 +9,7 @@ use Rattle.basis.specs.Rows.{at, AllBelow}
 use Rattle.ascii.specs.Case.{small}
 use Rattle.ascii.specs.Prefix.{afterPrefix}
 use Rattle.ascii.specs.Ldh.{isHostLabel}
-use Rattle.utf16.specs.Surrogates.{unpairedAt}
+use Rattle.surrogates.specs.Surrogates.{unpairedAt}
 use Rattle.alphabet.specs.Alphabet.{lace, isCharacter, valuesOf}
 use Rattle.base32.specs.Bits.{rowBit}
 use Rattle.base32.specs.Form.{octetCount, lengthLawful, spareZero}

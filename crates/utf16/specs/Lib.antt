@@ -1,6 +1,5 @@
--- Points, surrogates, UTF-16 units, bytes, and what the conversions answer.
+-- Points, UTF-16 units, bytes, and what the conversions answer.
 pub mod Points
-pub mod Surrogates
 pub mod Units
 pub mod Bytes
 pub mod Answer

@@ -3,7 +3,7 @@ use Prim.Native.Nat.{ℕ, _+_, _-_, _*_, _/_, _%_}
 use mathlib.Core.List.{List, [], _∷_}
 use lib.Dec.{ltb}
 use Rattle.basis.specs.Tests.{pick}
-unfoldable pub use Rattle.utf16.specs.Surrogates.{isHigh, isLow, isUnpaired, unpairedAt, firstUnpaired}
+unfoldable pub use Rattle.surrogates.specs.Surrogates.{isHigh, isLow, isUnpaired, unpairedAt, firstUnpaired}
 
 -- the pair of a point of 10000 hex or more: what is over 10000 hex, its upper ten bits in the high surrogate
 abbrev pub highOf : ℕ → ℕ

@@ -3,11 +3,11 @@ use crate::PointCount;
 use crate::PointsAnswer;
 use crate::UnitCount;
 use crate::UnitsAnswer;
-use crate::points;
 use crate::units;
 use basis::ByteCount;
 use basis::BytesAnswer;
 use basis::ErrorCode;
+use surrogates::points;
 ghost use mathlib.Core.Path.{_≡_};
 ghost use mathlib.Core.Bool.{true};
 ghost use mathlib.Core.List.{[], _∷_, _++_};
@@ -82,7 +82,7 @@ fn first_unpaired(bytes: &[u8]) -> usize
     let mut i = 0;
     while i < n {
         let unit = unit_at(bytes, i);
-        if units::is_unpaired(before, unit, unit_at(bytes, i + 1)) {
+        if surrogates::units::is_unpaired(before, unit, unit_at(bytes, i + 1)) {
             return i;
         }
         before = unit;

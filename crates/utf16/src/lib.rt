@@ -1,9 +1,9 @@
 // The conversions between points, UTF-16 units and bytes, with a type for each count.
 pub mod bytes;
-pub mod points;
-pub mod units;
+mod units;
 
 use basis::ErrorCode;
+use surrogates::points;
 ghost use mathlib.Core.Path.{_≡_};
 ghost use lib.ListN.{length, take};
 ghost use Rattle.basis.specs.Outcome.{bufferAfter};
@@ -79,7 +79,7 @@ pub fn to_points(units: &[u16], count: UnitCount, points: &mut [u32]) -> PointsA
         };
     }
     let row = &units[..n];
-    let unpaired = units::first_unpaired(row);
+    let unpaired = surrogates::units::first_unpaired(row);
     if points.len() < n {
         return PointsAnswer::Error {
             code: ErrorCode::Capacity,

@@ -1,69 +1,13 @@
-// UTF-16 units: unpaired surrogates, and the two conversions of a row that has been judged.
+// UTF-16 units: the two conversions of a row that has been judged.
+use surrogates::units;
 ghost use mathlib.Core.Path.{_≡_};
 ghost use mathlib.Core.List.{[], _++_};
 ghost use Prim.Native.Nat.{_+_, _*_, _≤_};
 ghost use mathlib.Core.Bool.{true};
-ghost use lib.ListN.{length, drop, getD};
+ghost use lib.ListN.{length, drop};
 ghost use lib.Seq.{sets};
 ghost use Rattle.utf16.specs.Points.{isPoint, isText};
-ghost use Rattle.utf16.specs.Units.{isHigh, isLow, isUnpaired, firstUnpaired, highOf, lowOf, unitsOf, toUnits, pointOf, toPoints};
-
-// Whether the unit is a high surrogate.
-fn is_high(unit: u16) -> bool
-    ensures { λ r. ⌜ r ≡ isHigh unit ⌝ }
-{
-    if unit < 0xd800 {
-        return false;
-    }
-    unit < 0xdc00
-}
-
-// Whether the unit is a low surrogate.
-fn is_low(unit: u16) -> bool
-    ensures { λ r. ⌜ r ≡ isLow unit ⌝ }
-{
-    if unit < 0xdc00 {
-        return false;
-    }
-    unit < 0xe000
-}
-
-// Whether the unit is an unpaired surrogate between its neighbours.
-pub(crate) fn is_unpaired(before: u16, unit: u16, after: u16) -> bool
-    ensures { λ r. ⌜ r ≡ isUnpaired before unit after ⌝ }
-{
-    if is_high(unit) {
-        return !is_low(after);
-    }
-    if is_low(unit) {
-        return !is_high(before);
-    }
-    false
-}
-
-// The unit at an index, 0 past the end.
-fn unit_at(units: &[u16], i: usize) -> u16
-    ensures { λ r. ⌜ r ≡ getD (now (units .entry)) i 0 ⌝ }
-{
-    if i < units.len() { units[i] } else { 0 }
-}
-
-// The index of the first unpaired surrogate, or the length.
-pub fn first_unpaired(units: &[u16]) -> usize
-    ensures { λ r. ⌜ r ≡ firstUnpaired (now (units .entry)) ⌝ }
-{
-    let mut before = 0;
-    let mut i = 0;
-    while i < units.len() {
-        let unit = units[i];
-        if is_unpaired(before, unit, unit_at(units, i + 1)) {
-            return i;
-        }
-        before = unit;
-        i += 1;
-    }
-    i
-}
+ghost use Rattle.utf16.specs.Units.{highOf, lowOf, unitsOf, toUnits, pointOf, toPoints};
 
 // The high surrogate of a point of 10000 hex or more.
 pub(crate) fn high_of(point: u32) -> u16
@@ -119,10 +63,10 @@ pub(crate) fn put_unit_point(before: u16, unit: u16, points: &mut [u32], at: usi
     ensures { λ r. ⌜ r ≡ at + length (pointOf before unit []) ⌝ }
     ensures { λ r. ⌜ now (points .exit) ≡ sets (now (points .entry)) at (pointOf before unit []) ⌝ }
 {
-    if is_high(unit) {
+    if units::is_high(unit) {
         return at;
     }
-    if is_low(unit) {
+    if units::is_low(unit) {
         points[at] = 0x10000 + (before as u32) % 1024 * 1024 + (unit as u32) % 1024;
         return at + 1;
     }

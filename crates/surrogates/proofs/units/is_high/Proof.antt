@@ -1,9 +1,9 @@
 -- `units::is_high` meets its contract.
 use mathlib.Core.Path.{sym}
 use Rattle.basis.proofs.Tests.{within-below, within-from}
-use Rattle.utf16.specs.Units.{isHigh}
-use Rattle.utf16.proofs.units.is_high.Statement.{statement}
-use Rattle.utf16.proofs.units.is_high.Tie as tie
+use Rattle.surrogates.specs.Surrogates.{isHigh}
+use Rattle.surrogates.proofs.units.is_high.Statement.{statement}
+use Rattle.surrogates.proofs.units.is_high.Tie as tie
 
 returns : tie.Need-returns
 unfolding isHigh

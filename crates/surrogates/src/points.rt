@@ -1,6 +1,6 @@
 // What is a point, and where a row of numbers has none.
 ghost use mathlib.Core.Path.{_≡_};
-ghost use Rattle.utf16.specs.Points.{isPoint, firstNotPoint};
+ghost use Rattle.surrogates.specs.Points.{isPoint, firstNotPoint};
 
 // Whether the number is a point.
 pub fn is_point(number: u32) -> bool

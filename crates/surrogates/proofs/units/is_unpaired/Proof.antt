@@ -2,9 +2,9 @@
 use mathlib.Core.Path.{sym, ap, _∙_}
 use mathlib.Core.Bool.{not}
 use borrow.Author.Needs.{needs}
-use Rattle.utf16.proofs.Surrogates.{unpaired-high, unpaired-low, unpaired-plain}
-use Rattle.utf16.proofs.units.is_unpaired.Statement.{statement}
-use Rattle.utf16.proofs.units.is_unpaired.Tie as tie
+use Rattle.surrogates.proofs.Surrogates.{unpaired-high, unpaired-low, unpaired-plain}
+use Rattle.surrogates.proofs.units.is_unpaired.Statement.{statement}
+use Rattle.surrogates.proofs.units.is_unpaired.Tie as tie
 
 pub is-unpaired-spec : {M : Type 1} → statement M
 is-unpaired-spec =

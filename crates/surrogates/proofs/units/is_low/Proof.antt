@@ -1,9 +1,9 @@
 -- `units::is_low` meets its contract.
 use mathlib.Core.Path.{sym}
 use Rattle.basis.proofs.Tests.{within-below, within-from}
-use Rattle.utf16.specs.Units.{isLow}
-use Rattle.utf16.proofs.units.is_low.Statement.{statement}
-use Rattle.utf16.proofs.units.is_low.Tie as tie
+use Rattle.surrogates.specs.Surrogates.{isLow}
+use Rattle.surrogates.proofs.units.is_low.Statement.{statement}
+use Rattle.surrogates.proofs.units.is_low.Tie as tie
 
 returns : tie.Need-returns
 unfolding isLow

@@ -2,9 +2,9 @@
 use mathlib.Core.Path.{sym}
 use native.Mathlib.Omega.{arith}
 use Rattle.basis.proofs.Tests.{ltb-is}
-use Rattle.utf16.proofs.Surrogates.{under-point, over-point, between-no-point, above-no-point}
-use Rattle.utf16.proofs.points.is_point.Statement.{statement}
-use Rattle.utf16.proofs.points.is_point.Tie as tie
+use Rattle.surrogates.proofs.Surrogates.{under-point, over-point, between-no-point, above-no-point}
+use Rattle.surrogates.proofs.points.is_point.Statement.{statement}
+use Rattle.surrogates.proofs.points.is_point.Tie as tie
 
 returns : tie.Need-returns
 returns c = sym (above-no-point (c .before .args .number) (omega (arith, c .if1 .taken)))

@@ -7,9 +7,9 @@ use borrow.Author.Needs.{needs}
 use native.Mathlib.Omega.{arith}
 use Rattle.basis.specs.Rows.{at}
 use Rattle.basis.proofs.Scan.{Passed, passed-none, passed-more, found-first, found-none}
-use Rattle.utf16.specs.Points.{isPoint, firstNotPoint}
-use Rattle.utf16.proofs.points.first_not_point.Statement.{statement}
-use Rattle.utf16.proofs.points.first_not_point.Tie as tie
+use Rattle.surrogates.specs.Points.{isPoint, firstNotPoint}
+use Rattle.surrogates.proofs.points.first_not_point.Statement.{statement}
+use Rattle.surrogates.proofs.points.first_not_point.Tie as tie
 
 pub first-not-point-spec : {M : Type 1} → statement M
 unfolding firstNotPoint

@@ -3,9 +3,9 @@ use Prim.Native.Nat.{_-_}
 use mathlib.Core.Path.{refl}
 use lib.ListN.{length}
 use borrow.Author.Needs.{needs}
-use Rattle.utf16.proofs.Surrogates.{Searching, searching-none, searching-found, searching-more, searching-all}
-use Rattle.utf16.proofs.units.first_unpaired.Statement.{statement}
-use Rattle.utf16.proofs.units.first_unpaired.Tie as tie
+use Rattle.surrogates.proofs.Surrogates.{Searching, searching-none, searching-found, searching-more, searching-all}
+use Rattle.surrogates.proofs.units.first_unpaired.Statement.{statement}
+use Rattle.surrogates.proofs.units.first_unpaired.Tie as tie
 
 abbrev Inv-loop : tie.InvT-loop
 Inv-loop units before₀ i₀ before i = Searching units before i

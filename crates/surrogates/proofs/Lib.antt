@@ -1,0 +1,2 @@
+-- The laws on points and surrogates.
+pub mod Surrogates
