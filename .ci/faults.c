@@ -1,4 +1,4 @@
-/* Faults for the runs of the built programs: loaded before the C library, it takes the place of read and write.
+/* Faults for the runs of the built programs: loaded before the C library, it takes the place of open, read and write.
  * Each number is of an environment variable; where it is not set there is no such fault.
  *   INTERRUPTS     a signal interrupts each call so many times before it is made
  *   READ_SIZE      a read takes at most so many bytes
@@ -55,6 +55,13 @@ __attribute__((constructor)) static void begin(void)
 {
     if (setting("NONBLOCKING"))
         fcntl(STDIN_FILENO, F_SETFL, fcntl(STDIN_FILENO, F_GETFL) | O_NONBLOCK);
+}
+
+int open(const char *path, int flags, ...)
+{
+    if (is_interrupted())
+        return fails(EINTR);
+    return syscall(SYS_open, path, flags, 0);
 }
 
 ssize_t read(int fd, void *buffer, size_t count)

@@ -1,7 +1,7 @@
 //! The same calls of two implementations, with every element of the memory
 //! around compared.
 
-use crate::functions::{store, Function, Implementation, Numbers, TableWrite};
+use crate::functions::{store, Function, Implementation, Numbers, TableDiff, TableWrite};
 use crate::generate::calls::{self, Call, Row};
 use crate::generate::lists::List;
 use crate::generate::Source;
@@ -98,6 +98,12 @@ trait Compared: Copy {
     fn rows(source: &mut Source, given: &Self::Given) -> Self::Rows;
 
     fn call(self, rows: &Self::Rows, buffer: &mut [Self::Filled], answer: &mut [u64]);
+
+    /// The code under which a call is counted that stored these numbers and wrote these
+    /// elements: 0 if it was done.
+    fn code(numbers: Numbers, _written: &[Self::Filled]) -> u64 {
+        numbers[0]
+    }
 }
 
 /// One row that is given, and the number or the numbers beside it.
@@ -168,6 +174,48 @@ impl Compared for TableWrite {
     }
 }
 
+/// The two tables of a sheet.
+#[derive(Clone, PartialEq)]
+struct GuardedTables {
+    left: Guarded<u8>,
+    right: Guarded<u8>,
+}
+
+impl fmt::Display for GuardedTables {
+    fn fmt(&self, out: &mut fmt::Formatter) -> fmt::Result {
+        write!(out, "\n    left  {}\n    right {}", self.left, self.right)
+    }
+}
+
+impl Compared for TableDiff {
+    type Given = [Vec<u8>; 2];
+    type Rows = GuardedTables;
+    type Filled = u8;
+
+    fn rows(source: &mut Source, [left, right]: &[Vec<u8>; 2]) -> GuardedTables {
+        GuardedTables {
+            left: Guarded::holding(source, left),
+            right: Guarded::holding(source, right),
+        }
+    }
+
+    fn call(self, rows: &GuardedTables, buffer: &mut [u8], answer: &mut [u64]) {
+        self([rows.left.row(), rows.right.row()], buffer, answer);
+    }
+
+    /// A sheet that refuses a table is counted under the code that it tells, and 100
+    /// more if it is the left table's, 200 more if it is the right one's.
+    fn code(numbers: Numbers, sheet: &[u8]) -> u64 {
+        let sheet = String::from_utf8_lossy(sheet);
+        let told = |code: &str| code.parse::<u64>().unwrap_or(0);
+        match sheet.splitn(4, ' ').collect::<Vec<_>>()[..] {
+            ["left", "refused", code, _] => 100 + told(code),
+            ["right", "refused", code, _] => 200 + told(code),
+            _ => numbers[0],
+        }
+    }
+}
+
 /// The memory of a call: what is given, the buffer, the answer row.
 #[derive(Clone, PartialEq)]
 struct Memory<R, B> {
@@ -224,18 +272,19 @@ struct Pair<F: Compared> {
 impl<F: Compared> Pair<F> {
     /// Makes a call of both functions, and again with room for the five numbers
     /// if the answer row was too short to show them.
-    fn compared(&self, source: &mut Source) -> Result<Numbers, String> {
+    fn compared(&self, source: &mut Source) -> Result<u64, String> {
         let call = (self.call)(source);
-        let numbers = self.called(source, &call)?;
-        if call.answer < numbers.len() {
-            return self.called(source, &Call { answer: numbers.len(), ..call });
+        let code = self.called(source, &call)?;
+        let five = Numbers::default().len();
+        if call.answer < five {
+            return self.called(source, &Call { answer: five, ..call });
         }
-        Ok(numbers)
+        Ok(code)
     }
 
-    /// Makes a call of both functions. Answers the five numbers, or says how the
-    /// two differ or what they changed and must not.
-    fn called(&self, source: &mut Source, call: &Call<F::Given>) -> Result<Numbers, String> {
+    /// Makes a call of both functions. Answers the code under which it is counted, or
+    /// says how the two differ or what they changed and must not.
+    fn called(&self, source: &mut Source, call: &Call<F::Given>) -> Result<u64, String> {
         let before = Memory::before::<F>(source, call);
         let [mut one, mut other] = [before.clone(), before.clone()];
         let numbers = one.call_and_store(self.functions[0]);
@@ -246,7 +295,7 @@ impl<F: Compared> Pair<F> {
         let written = call.capacity.min(numbers[2] as usize);
         must.buffer.row_mut()[..written].copy_from_slice(&one.buffer.row()[..written]);
         if one == must && other == must {
-            return Ok(numbers);
+            return Ok(F::code(numbers, &one.buffer.row()[..written]));
         }
         let [one_name, other_name] = self.implementations;
         Err(format!(
@@ -262,8 +311,8 @@ impl<F: Compared> Pair<F> {
         let mut source = Source::new(seed);
         let mut tally = Tally::default();
         for index in 0..count {
-            let numbers = self.compared(&mut source);
-            tally.count(numbers.map_err(|how| format!("{name}: case {index} differs: {how}"))?);
+            let code = self.compared(&mut source);
+            tally.count(code.map_err(|how| format!("{name}: case {index} differs: {how}"))?);
         }
         let line = format!("{name}: {count} cases agree: {tally}");
         if tally.met_all(self.codes) {
@@ -282,8 +331,8 @@ struct Tally {
 }
 
 impl Tally {
-    fn count(&mut self, numbers: Numbers) {
-        match numbers[0] {
+    fn count(&mut self, code: u64) {
+        match code {
             0 => self.done += 1,
             code => *self.codes.entry(code).or_default() += 1,
         }
@@ -325,10 +374,11 @@ macro_rules! comparison {
 }
 
 /// The functions that are compared, each with the calls that are made of it and
-/// with all the codes that it can answer with. Those that read or write 01's table, or
-/// read an entry of it, are compared again on tables and lists that hold BRACE, those
-/// of the C interface on scheme 3.
-pub const COMPARISONS: [(&str, Comparison); 26] = [
+/// with all the codes that it can answer with; those of `table_diff` but for 1 are what
+/// its sheets tell. Those that read or write 01's table, or read an entry of it, are
+/// compared again on tables and lists that hold BRACE, those of the C interface on
+/// scheme 3.
+pub const COMPARISONS: [(&str, Comparison); 27] = [
     comparison!(to_units, to_units, [1, 4]),
     comparison!(to_points, to_points, [1, 10]),
     comparison!(altdude_encode, encode, [1, 2, 3, 4, 5]),
@@ -347,6 +397,11 @@ pub const COMPARISONS: [(&str, Comparison); 26] = [
     comparison!(short_entry, short_entry, [1, 5, 6, 7, 8, 9, 13, 14]),
     comparison!(to_short, to_short, [1, 5, 6, 7, 8, 9, 13, 14]),
     comparison!(to_long, to_long, [1, 5, 6, 7, 8, 9, 13, 14]),
+    comparison!(
+        table_diff,
+        table_diff,
+        [1, 105, 106, 107, 108, 109, 113, 114, 205, 206, 207, 208, 209, 213, 214]
+    ),
     comparison!(write, write, [1, 2, 3, 5, 6, 10, 11, 12]),
     comparison!(read, read, [1, 2, 3, 5, 6, 7, 8, 9, 11]),
     comparison!("table_read, BRACE", table_read, brace_table_read, [5, 6, 7, 8, 9, 13, 14]),

@@ -5,7 +5,7 @@ use crate::c_interface::{self, ERROR_BASE};
 use crate::error::Error;
 use crate::scheme::Scheme;
 use crate::utf16::{self, PointCount, UnitCount};
-use crate::{altdude, brace, lace, nametable, short_table};
+use crate::{altdude, brace, lace, nametable, short_table, table_diff};
 
 /// Code (0 when done), position, count, and for an entry of a table reader
 /// number and scheme number.
@@ -21,6 +21,10 @@ pub type Function<G, B, N = usize> = fn(&[G], N, &mut [B], &mut [u64]);
 /// lengths of texts and the points of all texts, the buffer to fill, and the row
 /// of the five numbers.
 pub type TableWrite = fn(&[u16], &[u32], &[usize], &[u32], &mut [u8], &mut [u64]);
+
+/// The function that makes the sheet of what differs between two tables: the left one
+/// and the right one, the buffer to fill, and the row of the five numbers.
+pub type TableDiff = fn([&[u8]; 2], &mut [u8], &mut [u64]);
 
 /// The functions of an implementation, and what it is called. Reading a table or
 /// its header fills no buffer.
@@ -45,6 +49,7 @@ pub struct Implementation {
     pub short_entry: Function<u8, u32>,
     pub to_short: Function<u8, u8>,
     pub to_long: Function<u8, u8>,
+    pub table_diff: TableDiff,
     pub write: Function<u8, u8>,
     pub read: Function<u8, u8>,
 }
@@ -108,6 +113,9 @@ pub const INDEPENDENT: Implementation = Implementation {
     },
     to_short: |table, _, short, answer| store(numbers(short_table::to_short(table, short)), answer),
     to_long: |short, _, table, answer| store(numbers(short_table::to_long(short, table)), answer),
+    table_diff: |[left, right], sheet, answer| {
+        store(numbers(table_diff::diff(left, right, sheet)), answer);
+    },
     write: |text, scheme, label, answer| {
         store(interface_numbers(c_interface::write(scheme as u32, text, label)), answer);
     },

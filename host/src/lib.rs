@@ -19,4 +19,5 @@ pub mod point;
 pub mod proved;
 pub mod scheme;
 pub mod short_table;
+pub mod table_diff;
 pub mod utf16;

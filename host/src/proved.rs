@@ -147,6 +147,16 @@ extern "C" {
         answer: *mut u64,
         answer_len: usize,
     );
+    fn test_table_diff(
+        left: *const u8,
+        left_len: usize,
+        right: *const u8,
+        right_len: usize,
+        sheet: *mut u8,
+        sheet_len: usize,
+        answer: *mut u64,
+        answer_len: usize,
+    );
 }
 
 // libfirmware.a, declared in include/distelhut.h
@@ -243,6 +253,9 @@ pub const PROVED: Implementation = Implementation {
     },
     to_short: |table, _, short, answer| call!(test_to_short, [table], [], [short, answer]),
     to_long: |short, _, table, answer| call!(test_to_long, [short], [], [table, answer]),
+    table_diff: |[left, right], sheet, answer| {
+        call!(test_table_diff, [left, right], [], [sheet, answer])
+    },
     write: |text, scheme, label, answer| {
         store(interface_numbers(write(scheme as u32, text, label)), answer);
     },

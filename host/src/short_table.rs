@@ -43,7 +43,7 @@ pub fn to_long(short: &[u8], table: &mut [u8]) -> Result<usize, Error> {
 
 /// Judges a whole table and answers the fields of each entry. How long the table
 /// must be shows only entry by entry: each is judged before the next is looked for.
-fn judged(table: &[u8]) -> Result<Vec<Fields<'_>>, Error> {
+pub fn judged(table: &[u8]) -> Result<Vec<Fields<'_>>, Error> {
     let count = header(HEADER_KIND, table)?;
     let mut rest = &table[HEADER_LENGTH..];
     let mut entries = Vec::new();

@@ -3,7 +3,7 @@
 
 use distelhut_host::brace::{loose_text, style_of, symbols_in, Style};
 use distelhut_host::compare::COMPARISONS;
-use distelhut_host::functions::{store, Function, Implementation, INDEPENDENT};
+use distelhut_host::functions::{store, Function, Implementation, TableDiff, INDEPENDENT};
 use distelhut_host::point::is_ldh;
 
 const CASES: usize = 20_000;
@@ -1077,6 +1077,136 @@ fn errors_of_to_long() {
                     let entries = made.len() / 67;
                     filling_kept(made, held, &vec![67; entries], 4)
                 });
+            },
+        ],
+    );
+}
+
+/// Makes the sheet of two tables, and stores it as it is changed.
+fn other_sheet(
+    tables: [&[u8]; 2],
+    sheet: &mut [u8],
+    answer: &mut [u64],
+    change: fn(String) -> String,
+) {
+    let mut five = [1, 0, 0, 0, 0];
+    if sheet.len() >= 16_546 {
+        let mut made = vec![0; 16_546];
+        (INDEPENDENT.table_diff)(tables, &mut made, &mut five);
+        made.truncate(five[2] as usize);
+        let changed = change(String::from_utf8(made).unwrap());
+        five[2] = changed.len() as u64;
+        sheet[..changed.len()].copy_from_slice(changed.as_bytes());
+    }
+    store(five, answer);
+}
+
+/// A short table with small letters in its labels; any other table as it is.
+fn in_small_letters(table: &[u8]) -> Vec<u8> {
+    match table.first() {
+        Some(0x49) => each_changed(table, |entry| entry[5..].make_ascii_lowercase()),
+        _ => table.to_vec(),
+    }
+}
+
+#[test]
+fn errors_of_the_buffer_of_table_diff() {
+    found_in::<TableDiff>(
+        "table_diff",
+        |table_diff| Implementation { table_diff, ..INDEPENDENT },
+        &[
+            // a capacity of 16,545 is enough
+            |tables, sheet, answer| {
+                if sheet.len() != 16_545 {
+                    return (INDEPENDENT.table_diff)(tables, sheet, answer);
+                }
+                let mut longer = [0; 16_546];
+                longer[..16_545].copy_from_slice(sheet);
+                (INDEPENDENT.table_diff)(tables, &mut longer, answer);
+                sheet.copy_from_slice(&longer[..16_545]);
+            },
+            // a table's refusal comes before the capacity
+            |tables, sheet, answer| {
+                if sheet.len() < 16_546 && tables[0].is_empty() {
+                    return store([13, 0, 0, 0, 0], answer);
+                }
+                (INDEPENDENT.table_diff)(tables, sheet, answer);
+            },
+            // a table's refusal is an error
+            |tables, sheet, answer| {
+                let held = sheet.to_vec();
+                (INDEPENDENT.table_diff)(tables, sheet, answer);
+                if sheet.starts_with(b"left refused 14") {
+                    sheet.copy_from_slice(&held);
+                    store([14, 0, 0, 0, 0], answer);
+                }
+            },
+            // the buffer is cleared to its end
+            |tables, sheet, answer| {
+                let mut five = [0; 5];
+                (INDEPENDENT.table_diff)(tables, sheet, &mut five);
+                if five[0] == 0 {
+                    sheet[five[2] as usize..].fill(0);
+                }
+                store(five, answer);
+            },
+        ],
+    );
+}
+
+#[test]
+fn errors_of_the_lines_of_table_diff() {
+    found_in::<TableDiff>(
+        "table_diff",
+        |table_diff| Implementation { table_diff, ..INDEPENDENT },
+        &[
+            // the right table's refusal first
+            |[left, right], sheet, answer| {
+                let mut made = [0; 16_546];
+                (INDEPENDENT.table_diff)([right, left], &mut made, &mut []);
+                if made.starts_with(b"left refused") {
+                    return other_sheet([right, left], sheet, answer, |made| {
+                        made.replace("left", "right")
+                    });
+                }
+                (INDEPENDENT.table_diff)([left, right], sheet, answer);
+            },
+            // an entry whose text is another is told as one on each side
+            |tables, sheet, answer| {
+                other_sheet(tables, sheet, answer, |made| {
+                    let twice = |line: &str| match line.strip_suffix(" other text") {
+                        Some(reader) => format!("{reader} only left\n{reader} only right\n"),
+                        None => format!("{line}\n"),
+                    };
+                    made.lines().map(twice).collect()
+                });
+            },
+            // respelled is told as another text
+            |tables, sheet, answer| {
+                other_sheet(tables, sheet, answer, |made| {
+                    made.replace(" respelled\n", " other text\n")
+                });
+            },
+            // zeros before a reader number are left out
+            |tables, sheet, answer| {
+                other_sheet(tables, sheet, answer, |made| made.replace("\n0", "\n"));
+            },
+            // the counts of the two sides are swapped
+            |tables, sheet, answer| {
+                other_sheet(tables, sheet, answer, |made| {
+                    let Some((front, counts)) = made.split_once(" left ") else {
+                        return made;
+                    };
+                    match counts.trim_end().split_once(" right ") {
+                        Some((left, right)) => format!("{front} left {right} right {left}\n"),
+                        None => made,
+                    }
+                });
+            },
+            // capitals that BRACE copies are taken for small letters, in a short table
+            |[left, right], sheet, answer| {
+                let (left, right) = (in_small_letters(left), in_small_letters(right));
+                (INDEPENDENT.table_diff)([&left, &right], sheet, answer);
             },
         ],
     );

@@ -6,13 +6,16 @@ use mathlib.Core.List.{List, [], _∷_}
 use lib.Dec.{eqb, ltb}
 use lib.ListN.{length, getD, take, drop, length-append, length-drop}
 use lib.Seq.{take-at, drop-at, length-take-le}
-use borrow.Author.Tests.{le-ltb, ltb-false, ne-eqb, not-false}
+use borrow.Author.Tests.{ltb-true, le-ltb, ltb-false, eqb-true, ne-eqb, not-false}
 use native.Mathlib.Omega.{arith}
-use Rattle.basis.specs.Rows.{AllBelow}
+use Rattle.basis.specs.Rows.{at, AllBelow}
+use Rattle.basis.specs.Tests.{both, every}
 use Rattle.basis.specs.Outcome.{Outcome, done, refused, refusedIf, andThen, bufferAfter}
 use Rattle.basis.specs.Outcome as basis
-use Rattle.basis.proofs.Tests.{cases, true-not-false, within-low, within-high, first-le, none-iff}
+use Rattle.basis.specs.Causes.{whole, Settles}
+use Rattle.basis.proofs.Tests.{cases, ltb-iff, true-not-false, within-low, within-high, at-each, first-le, none-iff}
 use Rattle.basis.proofs.Outcome.{by-test, done-not-refused, done-count}
+use Rattle.basis.proofs.Causes.{settle-done, settle-whole}
 use Rattle.ascii.specs.Ldh.{isHostLabel}
 use Rattle.utf16.specs.Points.{isPoint, isText, firstNotPoint}
 use Rattle.utf16.specs.Units as utf16
@@ -68,10 +71,15 @@ use Rattle.nametable_short_facts.proofs.Counts.{short-entry-counts}
 use Rattle.firmware.specs.Answer.{answerOf, writeBy, writeOutcome, writtenLabel, readBy, readText}
 use Rattle.firmware.specs.Answer as firmware
 use Rattle.firmware.proofs.Counts.{write-few, read-few}
-use Rattle.report.specs.Lines.{listLine, pointsLine, refusedAtLine, refusedLine}
+use Rattle.report.specs.Lines.{listLine, pointsLine, refusedAtLine, refusedLine, leftWord, rightWord, sideRefusedLine, differenceLine, countsLine}
 use Rattle.report.specs.Answer.{lineOutcome}
+use Rattle.nametable_differences.proofs.LineLaws.{refusal-fits}
+use Rattle.nametable_differences.specs.Differences.{isShort, verdictOf}
+use Rattle.nametable_differences.specs.Report.{reportOf, reportCapacity, reportOutcome}
 use Rattle.claims.specs.Demand1.{isOneOf, Listed, Answers, Tells, encodeCodes, decodeCodes, tableCodes, tableWriteCodes, writeCodes, readCodes, Cut, OtherForm, Demand1}
 use Rattle.claims.proofs.Interface.{written-some, read-some}
+use Rattle.claims.proofs.Positions.{verdict-placed}
+use Rattle.claims.proofs.Differences.{refused-left, refused-right, whole-room}
 
 -- a chain of tests: each that holds has a listed number
 module _ {codes : List ℕ} where
@@ -461,6 +469,47 @@ put-line : (line out : List ℕ) → Answers (1 ∷ []) (lineOutcome line (lengt
 unfolding lineOutcome isOneOf
 put-line line out = answers _ (good-if _ _ _ (λ _. refl) (λ room. good-done _ refl (ltb-false (length out) (length line) room)))
 
+-- the number of a table's refusal is 14 at most
+one-of-small : (codes : List ℕ) (most number : ℕ) → AllBelow most codes → isOneOf codes number ≡ true → number < most
+unfolding isOneOf
+one-of-small [] most number below e = absurd (true-not-false e refl)
+one-of-small (code ∷ codes) most number below e =
+    cases (eqb code number) (λ s. omega (arith, eqb-true code number s, below 0 (omega arith)))
+    (λ s. one-of-small codes most number (λ i h. below (suc i) (omega arith)) (rw s at e))
+
+verdict-listed : (t : List ℕ) → Listed tableCodes (verdictOf t)
+unfolding verdictOf
+verdict-listed t = cases (isShort t) (λ s. rw s (short-read t)) (λ s. rw s (table-read t))
+
+verdict-number : (t : List ℕ) (number position : ℕ) → verdictOf t ≡ refused number position → number < 15
+unfolding tableCodes every both
+verdict-number t number position e =
+    one-of-small tableCodes 15 number (λ i h. ltb-true _ _ (at-each 7 (λ i. ltb (at tableCodes i) 15) refl i h)) (verdict-listed t .oneOf number position e)
+
+-- so whatever the tables, there is room for the report
+report-few : (left right : List ℕ) → length (reportOf left right) ≤ reportCapacity
+unfolding leftWord rightWord
+report-few left right = by (verdictOf left) (verdictOf right) refl refl
+  where
+    by : (l r : Outcome) → verdictOf left ≡ l → verdictOf right ≡ r → length (reportOf left right) ≤ reportCapacity
+    by (refused number position) r e f =
+        rw (refused-left left right number position e)
+        (refusal-fits leftWord number position (omega arith) (omega (arith, verdict-number left number position e)) (omega (arith, verdict-placed left number position e)))
+    by (done m) (refused number position) e f =
+        rw (refused-right left right m number position e f)
+        (refusal-fits rightWord number position (omega arith) (omega (arith, verdict-number right number position f)) (omega (arith, verdict-placed right number position f)))
+    by (done m) (done n) e f = whole-room left right m n e f
+
+difference-report : (left right report : List ℕ) → Answers (1 ∷ []) (reportOutcome left right (length report)) (reportOf left right) report
+unfolding reportOutcome isOneOf
+difference-report left right report =
+    answers _ (good-if _ _ _ (λ _. refl) (λ room. good-done _ refl (omega (arith, report-few left right, ltb-false (length report) reportCapacity room))))
+
+difference-report-settled : (left right : List ℕ) (capacity : ℕ)
+    → Settles (whole 1 (capacity < reportCapacity) ∷ []) (length (reportOf left right)) (reportOutcome left right capacity)
+unfolding reportOutcome
+difference-report-settled left right capacity = settle-whole _ 1 (ltb-iff capacity reportCapacity) (λ _. settle-done _)
+
 -- units of which none is unpaired make points
 never-four : (units : List ℕ) → AllBelow 65536 units → ltb (utf16.firstUnpaired units) (length units) ≡ false
     → ltb (firstNotPoint (utf16.toPoints units)) (length (utf16.toPoints units)) ≡ false
@@ -617,6 +666,11 @@ demand1 = record {
   pointsLines = λ points. put-line (pointsLine points);
   refusedAtLines = λ code position. put-line (refusedAtLine code position);
   refusedLines = λ code. put-line (refusedLine code);
+  sideRefusedLines = λ side code position. put-line (sideRefusedLine side code position);
+  differenceLines = λ reader words. put-line (differenceLine reader words);
+  countsLines = λ same other respelled left right. put-line (countsLine same other respelled left right);
+  differenceReport = difference-report;
+  differenceReportOrder = difference-report-settled;
   cutRead = cut-read;
   cutEntry = λ t c index capacity room. find-refused t index capacity room (cut-read t c);
   prefixRead = λ t n k e h. prefix-truncated t n k e (omega (arith, h));

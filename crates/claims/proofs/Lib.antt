@@ -1,6 +1,9 @@
 -- The proofs of the claims, which cite the crates below.
 pub mod CodecDemands
 pub mod Interface
+pub mod Rows
+pub mod Positions
+pub mod Differences
 pub mod Demand1
 pub mod Demands
 pub mod Written

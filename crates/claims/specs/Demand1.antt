@@ -1,6 +1,6 @@
 -- Demand 1: what every public function answers and leaves, whatever it is given, and that a table that is cut is refused as cut. The outcomes and
 -- the values are the definitions that the contracts cite. The order of the refusals is that of their tests; by causes it is said of the
--- conversions, of Base32 and of the tables here, and of the schemes and the C interface in demand 2. That a call ends and stays inside what
+-- conversions, of Base32, of the tables and of the report on two here, and of the schemes and the C interface in demand 2. That a call ends and stays inside what
 -- it was passed is what the checker proves of each function.
 use Prim.Native.Nat.{ℕ, _+_, _*_, _≤_, _<_}
 use mathlib.Core.Path.{_≡_}
@@ -11,7 +11,7 @@ use lib.Dec.{eqb}
 use lib.ListN.{length, take, drop}
 use Rattle.basis.specs.Rows.{at, AllBelow}
 use Rattle.basis.specs.Outcome.{Outcome, done, refused, countOf, bufferAfter}
-use Rattle.basis.specs.Causes.{Settles}
+use Rattle.basis.specs.Causes.{whole, Settles}
 use Rattle.ascii.specs.Ldh.{isHostLabel}
 use Rattle.utf16.specs.Units as utf16
 use Rattle.utf16.specs.Bytes.{unitsOfBytes, bytesOfUnits, pointsOf, bytesOf}
@@ -46,8 +46,9 @@ use Rattle.nametable_short_facts.specs.Causes.{shortTableCauses, shortFindCause
 use Rattle.firmware.specs.Answer.{answerOf, writeOutcome, writtenLabel, readText}
 use Rattle.firmware.specs.Answer as firmware
 use Rattle.firmware.specs.Causes.{UnknownNumber}
-use Rattle.report.specs.Lines.{listLine, pointsLine, refusedAtLine, refusedLine}
+use Rattle.report.specs.Lines.{listLine, pointsLine, refusedAtLine, refusedLine, sideRefusedLine, differenceLine, countsLine}
 use Rattle.report.specs.Answer.{lineOutcome}
+use Rattle.nametable_differences.specs.Report.{reportOf, reportCapacity, reportOutcome}
 
 -- the number is one of the codes
 unfoldable pub isOneOf : List ℕ → ℕ → Bool
@@ -246,6 +247,17 @@ pub record Demand1 : Type 0 where
   pub refusedAtLines : (code position : ℕ) (out : List ℕ)
       → Answers (1 ∷ []) (lineOutcome (refusedAtLine code position) (length out)) (refusedAtLine code position) out
   pub refusedLines : (code : ℕ) (out : List ℕ) → Answers (1 ∷ []) (lineOutcome (refusedLine code) (length out)) (refusedLine code) out
+  pub sideRefusedLines : (side : List ℕ) (code position : ℕ) (out : List ℕ)
+      → Answers (1 ∷ []) (lineOutcome (sideRefusedLine side code position) (length out)) (sideRefusedLine side code position) out
+  pub differenceLines : (reader : ℕ) (words out : List ℕ)
+      → Answers (1 ∷ []) (lineOutcome (differenceLine reader words) (length out)) (differenceLine reader words) out
+  pub countsLines : (same other respelled left right : ℕ) (out : List ℕ)
+      → Answers (1 ∷ []) (lineOutcome (countsLine same other respelled left right) (length out)) (countsLine same other respelled left right) out
+  -- nametable_differences: whatever the tables, the report fits the room that it asks for
+  pub differenceReport : (left right report : List ℕ)
+      → Answers (1 ∷ []) (reportOutcome left right (length report)) (reportOf left right) report
+  pub differenceReportOrder : (left right : List ℕ) (capacity : ℕ)
+      → Settles (whole 1 (capacity < reportCapacity) ∷ []) (length (reportOf left right)) (reportOutcome left right capacity)
   -- a table that is cut is 13, from `read`, and from `entry` at any index, given the room
   pub cutRead : (table : List ℕ) → Cut table → readOutcome table ≡ refused 13 0
   pub cutEntry : (table : List ℕ) → Cut table → (index capacity : ℕ) → 63 ≤ capacity → findOutcome table index capacity ≡ refused 13 0

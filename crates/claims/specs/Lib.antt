@@ -4,6 +4,7 @@ pub mod Demand1
 pub mod Demands
 pub mod Written
 pub mod ShortForm
+pub mod Differences
 pub mod KnownLabels
 pub mod Brace
 pub mod Shortest

@@ -2,7 +2,6 @@
 use crate::EntryAnswer;
 use crate::TEXT_CAPACITY;
 use crate::TableAnswer;
-use crate::layout::number_at;
 use basis::ErrorCode;
 use nametable_format::ENTRY_LENGTH;
 use nametable_format::HEADER_LENGTH;
@@ -71,7 +70,7 @@ fn form_of(entry: &[u8], least: usize) -> Form
     let Named::Known(scheme) = named else {
         return Form::Malformed;
     };
-    let reader = number_at(entry, READER_START);
+    let reader = nametable_format::number_at(entry, READER_START);
     if reader < least {
         return Form::Malformed;
     }

@@ -1,7 +1,6 @@
 // The name table (the paper's book of names): reading it, one entry of it by index, its header and an
 // entry by themselves, and writing it.
 mod entries;
-mod layout;
 
 use basis::BytesAnswer;
 use basis::ErrorCode;
@@ -57,7 +56,7 @@ pub fn header(kind: u8, table: &[u8]) -> TableAnswer
     if table.len() < HEADER_LENGTH {
         return entries::table_error(ErrorCode::Truncated, 0);
     }
-    let count = layout::number_at(table, COUNT_START);
+    let count = nametable_format::number_at(table, COUNT_START);
     if count < 1 {
         return entries::table_error(ErrorCode::Malformed, 0);
     }
@@ -115,7 +114,7 @@ pub fn judged_entry(table: &[u8], index: usize, text: &mut [u32]) -> EntryAnswer
     if table.len() < HEADER_LENGTH {
         return entries::entry_error(ErrorCode::Truncated, 0);
     }
-    let count = layout::number_at(table, COUNT_START);
+    let count = nametable_format::number_at(table, COUNT_START);
     if count <= index {
         return entries::entry_error(ErrorCode::Malformed, 0);
     }

@@ -2,6 +2,7 @@
 pub mod Settled
 pub mod Truncation
 pub mod Whole
+pub mod JudgedEntry
 pub mod ReadBack
 pub mod Found
 pub mod Rewritten

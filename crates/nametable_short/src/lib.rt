@@ -17,7 +17,7 @@ ghost use Rattle.nametable_short.specs.Format.{shortEntryAt, longOf};
 ghost use Rattle.nametable_short.specs.Answer.{shortReadOutcome, shortEntryText, shortFindOutcome, toShort, toLong, toShortOutcome, toLongOutcome};
 
 // The kind of the header of a short table.
-const SHORT_HEADER_KIND: u8 = 0x49;
+pub const SHORT_HEADER_KIND: u8 = 0x49;
 
 // Judges a whole short table.
 pub fn read(table: &[u8]) -> TableAnswer

@@ -2,7 +2,7 @@
 use Prim.Native.Nat.{ℕ, zero, suc, _+_, _-_, _/_, _%_, _^_, _<_, _≤_, max}
 use mathlib.Core.Path.{_≡_, refl, ap, _∙_}
 use mathlib.Core.List.{List, [], _∷_, _++_, append-assoc}
-use native.Mathlib.Nat.{not-suc-le-zero, div-lt-self, div-mul-le-self, mul-le-mul-left}
+use native.Mathlib.Nat.{not-suc-le-zero, div-lt-self, div-lt-iff-lt-mul, pow-zero, pow-suc, pow-le-pow-left}
 use native.Mathlib.Omega.{arith}
 use lib.ListN.{length, set, length-append}
 use lib.Seq.{sets, length-sets}
@@ -69,15 +69,16 @@ module _ (base : ℕ) (large : 2 ≤ base) where
       let e = count-bound n (suc n / base) (suc n / base) (omega arith) (omega arith) in
       omega arith
 
-  -- a number below 2 ^ k has at most k digits
-  pub count-few : (k n : ℕ) → n < 2 ^ k → digitCount base n n ≤ k
-  unfolding digitCount
-  count-few zero zero h = omega arith
-  count-few zero (suc n) h = absurd (omega arith)
-  count-few (suc k) n h =
+  -- a number below base ^ k has at most k digits, and so one below 2 ^ k
+  pub count-below-power : (k n : ℕ) → n < base ^ k → digitCount base n n ≤ k
+  count-below-power zero n h = omega (arith, count-none base n (omega (arith, pow-zero base)))
+  count-below-power (suc k) n h =
       by-lt 0 n
-      (λ p. omega (arith, count-step n p, count-few k (n / base) (omega (arith, div-mul-le-self n base, mul-le-mul-left (n / base) large))))
+      (λ p. omega (arith, count-step n p, count-below-power k (n / base) (div-lt-iff-lt-mul (omega arith) .1 (rw pow-suc at h))))
       (λ p. omega (arith, count-none base n (omega arith)))
+
+  pub count-few : (k n : ℕ) → n < 2 ^ k → digitCount base n n ≤ k
+  count-few k n h = count-below-power k n (omega (arith, pow-le-pow-left large k))
 
 -- the digits are stored from the last one on: before the first store, one store more, and none left
 module _ (base : ℕ) (out : List ℕ) (at : ℕ) where

@@ -1,28 +1,18 @@
 -- How many bytes lines have at most, if each of their points is at most 10FFFF hex.
-use Prim.Native.Nat.{ℕ, zero, suc, _+_, _*_, _/_, _^_, _≤_, _<_}
+use Prim.Native.Nat.{ℕ, suc, _+_, _*_, _^_, _≤_, _<_}
 use mathlib.Core.List.{List, [], _∷_}
 use lib.ListN.{length, getD, length-append}
 use native.Mathlib.Omega.{arith}
-use Rattle.basis.proofs.Tests.{by-lt}
-use Rattle.report.specs.Digits.{digitCount}
 use Rattle.report.specs.Lines.{pointBytes, spacedPoints, pointsBytes, pointsLine, listLine}
-use Rattle.report.proofs.DigitLaws.{digits-length, count-none, count-step}
+use Rattle.report.proofs.DigitLaws.{digits-length, count-below-power}
 use Rattle.report.proofs.PointLaws.{point-length}
 use Rattle.report.proofs.LineLaws.{points-line-length, list-line-length}
-
--- a number below 16 ^ k has at most k hexadecimal digits
-hex-few : (k n : ℕ) → n < 16 ^ k → digitCount 16 n n ≤ k
-hex-few zero n h = omega (arith, count-none 16 n (omega arith))
-hex-few (suc k) n h =
-    by-lt 0 n
-    (λ p. omega (arith, count-step 16 (omega arith) n p, hex-few k (n / 16) (omega arith)))
-    (λ p. omega (arith, count-none 16 n (omega arith)))
 
 -- a point has at most eight bytes
 point-few : (p : ℕ) → p ≤ 0x10ffff → length (pointBytes p) ≤ 8
 point-few p top =
     let small : p < 16 ^ 6 = omega arith in
-    omega (arith, point-length p, digits-length 16 4 p, hex-few 6 p small)
+    omega (arith, point-length p, digits-length 16 4 p, count-below-power 16 (omega arith) 6 p small)
 
 -- each point of a row is at most 10FFFF hex
 abbrev pub Low : List ℕ → Type 0

@@ -25,6 +25,10 @@ fromBits z = toZ w64 (ofZ w64 z)
 pub sign-is : (z : ℤ) → SFits w64 z → {flag : Bool} → ltZ (fromBits z) (pos 0) ≡ flag → ltZ z (pos 0) ≡ flag
 sign-is z f h = rw (toZ-ofZ w64 z f) at h
 
+-- a number of 32 bits fits 64
+pub widened-fits : (z : ℤ) → SFits w32 z → SFits w64 (toZ w32 (ofZ w32 z))
+widened-fits z f = rw (toZ-ofZ w32 z f) (record { sfits = omega (arith, f .sfits) })
+
 error-is : (error : ℤ) → SFits w32 error → eqb (ofZ w32 error) 4 ≡ isEintr error
 unfolding isEintr
 error-is (pos k) f = refl

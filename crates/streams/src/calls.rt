@@ -1,4 +1,4 @@
-// The results of the C library's read and write.
+// The C library's open, read and write: calls that are made again after a signal, and their results.
 use crate::Ending;
 use crate::ReadAnswer;
 ghost use mathlib.Core.Path.{_≡_};
@@ -16,6 +16,19 @@ pub(crate) fn was_interrupted(moved: isize, error: i32) -> bool
         return error == libc::EINTR;
     }
     false
+}
+
+// Opens the file for reading, and answers a descriptor, or a number below 0.
+pub(crate) fn open_file(path: &[u8]) -> i32 {
+    let mut tries = u64::MAX;
+    while tries > 0 {
+        let fd = os::open_read(path);
+        if !was_interrupted(fd as isize, os::errno()) {
+            return fd;
+        }
+        tries -= 1;
+    }
+    -1
 }
 
 // Writes some of the bytes, and answers how many: none if the write failed.

@@ -1,5 +1,6 @@
-// Reading a descriptor and printing. A call that a signal interrupts is made again. Any other failure is reported on
-// standard error and answered, so that a failed read is not taken for the end of input, nor a failed write for a done one.
+// Reading a descriptor or a named file, and printing. A call that a signal interrupts is made again. Any other failure to
+// open, read or write is reported on standard error and answered, so that a failed read is not taken for the end of input,
+// nor a failed write for a done one.
 mod calls;
 
 use libc::STDERR_FILENO;
@@ -71,6 +72,27 @@ pub fn read_full(fd: i32, buffer: &mut [u8]) -> Filled
         count: done,
         ending: Ending::End,
     }
+}
+
+// Reads the file that the program's argument at the index names, as read_full does. A file that can't be opened is a failed
+// read. os::arg answers 0 for an argument that is missing or too long: the path is then empty, as for an empty argument, and
+// opening it fails. Closing loses no byte that was read, and whether it fails is not looked at.
+pub fn read_argument(index: usize, buffer: &mut [u8]) -> Filled
+    ensures { λ r. ⌜ Counts (r .count) (now (buffer .exit)) ⌝ }
+{
+    let mut path = io::buffer();
+    let n = os::arg(index, &mut path);
+    let fd = calls::open_file(&path[..n]);
+    if fd < 0 {
+        calls::read_failed();
+        return Filled {
+            count: 0,
+            ending: Ending::Failed,
+        };
+    }
+    let filled = read_full(fd, buffer);
+    libc::close(fd);
+    filled
 }
 
 // The bytes that are believed of those that were read: all if the input ended, none if a read failed.

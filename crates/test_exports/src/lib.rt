@@ -25,6 +25,7 @@ ghost use Rattle.nametable.specs.Answer.{headerOutcome, readOutcome, findOutcom
 ghost use Rattle.nametable_write.specs.Writing.{entriesOf, writeOutcome, tableOf};
 ghost use Rattle.nametable_short.specs.Format.{shortEntryAt, longOf};
 ghost use Rattle.nametable_short.specs.Answer.{shortReadOutcome, shortEntryText, shortFindOutcome, toShort, toLong, toShortOutcome, toLongOutcome};
+ghost use Rattle.nametable_differences.specs.Report.{reportOf, reportOutcome};
 ghost use Rattle.test_exports.specs.Answer.{numbersOf, entryNumbersOf, answerAfter};
 
 // Exports `utf16::to_units`.
@@ -210,4 +211,16 @@ pub extern "C" fn test_to_long(short: &[u8], table: &mut [u8], answer: &mut [u64
     ensures { λ _. ⌜ now (answer .exit) ≡ answerAfter (numbersOf (toLongOutcome (now (short .entry)) (length (now (table .entry))))) (now (answer .entry)) ⌝ }
 {
     answers::store_bytes(nametable_short::to_long(short, table), answer);
+}
+
+// Exports `nametable_differences::write_report`.
+#[no_mangle]
+pub extern "C" fn test_table_diff(left: &[u8], right: &[u8], sheet: &mut [u8], answer: &mut [u64])
+    ensures { λ _. ⌜ now (sheet .exit) ≡ bufferAfter (reportOutcome (now (left .entry)) (now (right .entry)) (length (now (sheet .entry)))) (reportOf (now (left .entry)) (now (right .entry))) (now (sheet .entry)) ⌝ }
+    ensures { λ _. ⌜ now (answer .exit) ≡ answerAfter (numbersOf (reportOutcome (now (left .entry)) (now (right .entry)) (length (now (sheet .entry))))) (now (answer .entry)) ⌝ }
+{
+    answers::store_bytes(
+        nametable_differences::write_report(left, right, sheet),
+        answer,
+    );
 }

@@ -3,7 +3,7 @@
 //! not shared.
 
 use super::lists::{self, List};
-use super::{labels, short_tables, tables, texts, Source};
+use super::{labels, pairs, short_tables, tables, texts, Source};
 use crate::scheme::Scheme;
 
 /// A call: what is given, and the lengths of the buffer and of the answer row.
@@ -262,6 +262,13 @@ pub fn to_long(source: &mut Source) -> Call<Row<u8>> {
     let short = short_tables::table(source);
     let capacity = capacity_around(source, 3 + 67 * announced(&short));
     call(source, short, 0, capacity)
+}
+
+/// Making the sheet of two tables.
+pub fn table_diff(source: &mut Source) -> Call<[Vec<u8>; 2]> {
+    let given = pairs::pair(source);
+    let capacity = capacity_around(source, 16_546);
+    Call { given, capacity, answer: answer_length(source) }
 }
 
 /// The scheme of a number; LACE's labels and texts are made for an unknown one.

@@ -3,6 +3,7 @@
 pub mod calls;
 pub mod labels;
 pub mod lists;
+pub mod pairs;
 pub mod short_tables;
 pub mod tables;
 pub mod texts;

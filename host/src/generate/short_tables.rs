@@ -54,7 +54,7 @@ pub fn lawful_entries(source: &mut Source, entries: usize) -> Vec<Entry> {
 }
 
 /// Some lawful entries: few, seldom many, now and then 500.
-fn some_entries(source: &mut Source) -> Vec<Entry> {
+pub fn some_entries(source: &mut Source) -> Vec<Entry> {
     let entries = tables::entries(source);
     lawful_entries(source, entries)
 }
@@ -138,6 +138,11 @@ pub fn table(source: &mut Source) -> Vec<u8> {
     if source.once_in(32) {
         return long_of(&entries);
     }
+    with_faults(source, &entries)
+}
+
+/// A short table of some entries: whole, or with up to three faults.
+pub fn with_faults(source: &mut Source, entries: &[Entry]) -> Vec<u8> {
     let faults = source.faults();
     let in_bytes = (0..faults).filter(|_| source.once_in(3)).count();
     let mut records: Vec<_> = entries.iter().map(record).collect();

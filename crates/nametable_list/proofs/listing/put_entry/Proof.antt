@@ -1,8 +1,9 @@
 -- `listing::put_entry` meets its contract: the entry is found, and its line is written whole.
 use native.Mathlib.Omega.{arith}
+use Rattle.nametable_facts.proofs.JudgedEntry.{never-error}
 use Rattle.report.proofs.LineLaws.{line-written}
 use Rattle.nametable_list.specs.Listing.{entryLine}
-use Rattle.nametable_list.proofs.EntryLines.{line-fits, never-error, points-fit, points-long, line-is}
+use Rattle.nametable_list.proofs.EntryLines.{line-fits, points-fit, points-long, line-is}
 use borrow.Author.Needs.{needs}
 use Rattle.nametable_list.proofs.listing.put_entry.Statement.{statement}
 use Rattle.nametable_list.proofs.listing.put_entry.Tie as tie
@@ -34,5 +35,5 @@ put-entry-spec =
     (tie.spec (λ c. search needs) (λ c κs. search needs) (λ c. search needs) (λ c. search needs)
     (λ c κs. search needs) array-share-prefix-points slice-aggregate-list-line
     (λ c κs. search needs) (λ c κs. search needs)
-    (λ c. let e = c .before .before .before .judged-entry .ensures in absurd (never-error _ _ (c .before .before .before .before .before .before .before .pre .0) _ (omega arith) _ (e .0) _ _ (c .enum-told .given .1)))
+    (λ c. let e = c .before .before .before .judged-entry .ensures in absurd (never-error _ _ _ (c .before .before .before .before .before .before .before .pre .0 _ (omega arith)) _ (e .0) _ _ (c .enum-told .given .1)))
     (λ c. search needs) returns-2)

@@ -1,0 +1,1 @@
+-- What is printed are the definitions of `nametable_differences` and `streams`.
