@@ -1,18 +1,17 @@
 -- What encoding and decoding answer, for every input, in the order of the refusals.
 use Prim.Native.Nat.{ℕ}
-use mathlib.Core.Bool.{Bool, true, false, not, _||_}
+use mathlib.Core.Bool.{Bool, true, false, not}
 use mathlib.Core.List.{List}
-use lib.Dec.{eqb, ltb}
+use lib.Dec.{ltb}
 use lib.ListN.{length}
 use Rattle.basis.specs.Tests.{both, firstIn}
 use Rattle.basis.specs.Outcome.{Outcome, done, refused, refusedIf}
 use Rattle.ascii.specs.Ldh.{isLdh, hasEdgeHyphen}
-use Rattle.utf16.specs.Units.{firstUnpaired}
 use Rattle.labels.specs.Tests.{labelTests}
 use Rattle.alphabet.specs.Alphabet.{brace}
 use Rattle.copying.specs.Symbols.{areFor}
 use Rattle.brace_format.specs.Signature.{isSigned}
-use Rattle.brace_symbols.specs.Encoding.{symbolsOf, labelOf}
+use Rattle.brace_symbols.specs.Encoding.{symbolsOf}
 use Rattle.brace_text.specs.Decoding.{textOf}
 -- encoding a text answers what writing its symbols does
 unfoldable pub use Rattle.brace_symbols.specs.Answer.{isTooLong, encodeOutcome}

@@ -1,6 +1,4 @@
 -- BRACE as a codec, of which the demands speak: of units, and of points.
-use mathlib.Core.List.{List}
-use Prim.Native.Nat.{ℕ}
 use Rattle.basis.specs.Codec.{Codec}
 use Rattle.ascii.specs.Case.{SameButCase}
 use Rattle.utf16.specs.Units.{toUnits}

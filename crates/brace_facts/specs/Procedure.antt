@@ -1,5 +1,5 @@
 -- Encoding as the draft words it: a queue of bits (how many, and their value), and a buffer in which
--- LDH waits until the bits before it are out. It gives the same symbols as brace's definitions.
+-- LDH waits until the bits before it are out. It gives the same symbols as `brace_symbols`' definitions.
 use Prim.Native.Nat.{ℕ, _+_, _-_, _*_, _/_, _%_, _^_}
 use mathlib.Core.Bool.{Bool, false, not, _||_}
 use mathlib.Core.List.{List, [], _∷_, _++_}

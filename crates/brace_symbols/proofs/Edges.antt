@@ -1,6 +1,6 @@
 -- A label begins and ends with no hyphen, so that encoding needs no test for it.
 use Prim.Native.Nat.{ℕ, zero, suc, _+_, _-_, _*_, _/_, _%_, _^_, _≤_}
-use mathlib.Core.Path.{_≡_, refl, sym}
+use mathlib.Core.Path.{_≡_, refl}
 use mathlib.Core.Bool.{true, false, not}
 use mathlib.Core.List.{List, _++_, map, map-append}
 use lib.Dec.{eqb}

@@ -1,13 +1,12 @@
 -- The signature as it is stored, and when a text goes out as it is.
 use Prim.Native.Nat.{ℕ, suc, _+_}
-use mathlib.Core.Path.{_≡_, refl, sym, _∙_}
+use mathlib.Core.Path.{_≡_, sym, _∙_}
 use mathlib.Core.Bool.{Bool, true, false}
 use mathlib.Core.List.{List}
 use lib.ListN.{set}
 use lib.Seq.{sets}
 use native.Mathlib.Numerals.{add-one}
 use native.Mathlib.Omega.{arith}
-use Rattle.basis.specs.Tests.{both}
 use Rattle.basis.proofs.Tests.{both-false, both-left}
 use Rattle.ascii.specs.Ldh.{isAllLdh, isHostLabel}
 use Rattle.brace_format.specs.Signature.{signature, isSigned}

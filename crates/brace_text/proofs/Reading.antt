@@ -1,11 +1,11 @@
 -- What a byte adds to the text, the queue after it, and the text that is still to be stored.
-use Prim.Native.Nat.{ℕ, _+_, _-_, _*_, _/_, _^_, _≤_, _<_}
+use Prim.Native.Nat.{ℕ, _+_, _-_, _*_, _/_, _%_, _^_, _≤_, _<_}
 use mathlib.Core.Path.{_≡_, refl, sym, ap, _∙_}
 use mathlib.Core.Bool.{Bool, true, false, not}
 use mathlib.Core.List.{List, [], _∷_, _++_}
 use lib.Arith.{digits-lt}
 use lib.Dec.{eqb, leb, ltb}
-use lib.ListN.{length, drop, getD, drop-of-length-le}
+use lib.ListN.{length, drop, getD, length-append, length-drop, drop-of-length-le}
 use lib.Pow.{pow-add, pow-pos, pow-mono}
 use lib.Seq.{sets, drop-cons}
 use borrow.Author.Tests.{eq-eqb, ne-eqb, le-leb, lt-leb, leb-false}
@@ -16,14 +16,14 @@ use Rattle.basis.specs.Tests.{both}
 use Rattle.basis.proofs.Tests.{cases}
 use Rattle.basis.proofs.Stores.{Storing, storing-all, storing-more, storing-none}
 use Rattle.alphabet.specs.Alphabet.{brace}
-use Rattle.copying.specs.Symbols.{quintetOf}
+use Rattle.copying.specs.Symbols.{headNumber, quintetOf}
 use Rattle.copying.specs.Modes.{isCopied, isCoded, isSecond, nextMode}
 use Rattle.copying.specs.declared.Mode.{Mode}
 use Rattle.copying.specs.declared.Mode.the-variants.{Coded}
 use Rattle.brace_format.specs.declared.style.Style.{Style}
 use Rattle.brace_format.specs.declared.style.Style.the-variants.{HalfRow, Row, Mixed, NoRow}
 use Rattle.brace_format.specs.Style.{widthBy, unitOf}
-use Rattle.brace_text.specs.Decoding.{dueWidth, isWhole, countLeft, valueLeft, unitTaken, nextCount, nextValue, adds, textFrom}
+use Rattle.brace_text.specs.Decoding.{dueWidth, isWhole, countLeft, valueLeft, unitTaken, nextCount, nextValue, adds, textFrom, headLength, headSpare, headStyle, textBy, kindOf, bodyText}
 use Rattle.brace_text.specs.Internal.{hyphenAdds}
 
 -- the unit of the first code, if that is whole
@@ -91,6 +91,21 @@ module _ (s : Style) (m : Mode) (k v b : ℕ) where
       (λ e. cases (isCopied m)
       (λ f. rw (e, f) (omega arith))
       (λ f. cases (isWhole s (k + 5) (v * 32 + quintetOf brace b)) (λ g. rw (e, f, g) (omega arith)) (λ g. rw (e, f, g) (omega arith))))
+
+-- a text has no more units than its bytes
+text-few : (s : Style) (m : Mode) (k v : ℕ) (l : List ℕ) → length (textFrom s m k v l) ≤ length l
+unfolding textFrom
+text-few s m k v [] = omega arith
+text-few s m k v (b ∷ l) =
+    let rest = textFrom s (nextMode m b) (nextCount s m k v b) (nextValue s m k v b) l in
+    omega (arith, ap length (adds-append s m k v b rest), length-append (adds s m k v b []) rest, adds-few s m k v b, text-few s (nextMode m b) (nextCount s m k v b) (nextValue s m k v b) l)
+
+pub body-few : (body : List ℕ) → length (bodyText body) ≤ length body
+unfolding bodyText textBy
+body-few body =
+    let kind = kindOf body in
+    let x = headNumber brace (headLength kind) 0 body in
+    omega (arith, text-few (headStyle kind x) Coded (headSpare kind) (x % 2 ^ headSpare kind) (drop (headLength kind) body), length-drop (headLength kind) body)
 
 -- every code has 7 to 18 bits
 width-bounds : (s : Style) (top : ℕ) → (7 ≤ widthBy s top) × (widthBy s top ≤ 18)

@@ -41,10 +41,12 @@ use Rattle.lace.specs.Answer as lace
 use Rattle.lace_facts.proofs.Label as lace-laws
 use Rattle.brace_symbols.specs.Encoding as brace-encoding
 use Rattle.brace_text.specs.Decoding as brace-decoding
+use Rattle.brace_text.specs.Answer.{bodyOutcome}
+use Rattle.brace_text.proofs.Reading.{body-few}
 use Rattle.brace.specs.Answer as brace
 use Rattle.brace.specs.Points as brace-points
 use Rattle.brace_symbols.proofs.Edges.{label-edges}
-use Rattle.brace_symbols.proofs.Labels.{either-false}
+use Rattle.brace_symbols.proofs.Labels.{length-bytes, either-false}
 use Rattle.brace.proofs.PointsLaws.{text-unpaired, lawful-short}
 use Rattle.scheme.specs.declared.Scheme.{Scheme}
 use Rattle.scheme.specs.declared.Scheme.the-variants.{Altdude, Lace, Brace}
@@ -252,20 +254,21 @@ module _ (codes : List ℕ) (capacity : ℕ) (l : List ℕ)
 
 -- BRACE: writing never gives 5, and 1, 2 and 10 need be listed only if their tests hold
 module _ (codes : List ℕ) (capacity : ℕ) (three : isOneOf codes 3 ≡ true) where
-  brace-encoded : (t : List ℕ) → (ltb capacity 63 ≡ true → isOneOf codes 1 ≡ true) → (eqb (length t) 0 ≡ true → isOneOf codes 2 ≡ true)
-      → (ltb (utf16.firstUnpaired t) (length t) ≡ true → isOneOf codes 10 ≡ true) → Good codes (brace.encodeOutcome capacity t) (brace-encoding.labelOf t) capacity
+  brace-encoded : (t : List ℕ) {values : List ℕ} → length values ≡ length (brace-encoding.labelOf t) → (ltb capacity 63 ≡ true → isOneOf codes 1 ≡ true)
+      → (eqb (length t) 0 ≡ true → isOneOf codes 2 ≡ true) → (ltb (utf16.firstUnpaired t) (length t) ≡ true → isOneOf codes 10 ≡ true)
+      → Good codes (brace.encodeOutcome capacity t) values capacity
   unfolding brace.encodeOutcome brace.isTooLong
-  brace-encoded t one two ten =
+  brace-encoded t long one two ten =
       good-if _ _ _ one (λ room. good-if _ _ _ two (λ _. good-if _ _ _ ten (λ _.
       good-if _ _ _ (λ e. absurd (true-not-false e (label-edges t))) (λ _. good-if _ _ _ (λ _. three) (λ short.
-      good-done _ refl (omega (arith, ltb-false capacity 63 room, ltb-false 63 (length (brace-encoding.labelOf t)) (either-false (ltb 63 (length t)) _ short .1))))))))
+      good-done _ (sym long) (omega (arith, ltb-false capacity 63 room, ltb-false 63 (length (brace-encoding.labelOf t)) (either-false (ltb 63 (length t)) _ short .1))))))))
 
   points-encoded : (t : List ℕ) → isOneOf codes 1 ≡ true → isOneOf codes 2 ≡ true → (ltb (firstNotPoint t) (length t) ≡ true → isOneOf codes 4 ≡ true)
       → Good codes (brace-points.encodeOutcome capacity t) (brace-points.labelOf t) capacity
   unfolding brace-points.encodeOutcome brace-points.labelOf textTests
   points-encoded t one two four =
       good-if _ _ _ (λ _. one) (λ _. good-if _ _ _ (λ _. two) (λ _. good-if _ _ _ four (λ points.
-      brace-encoded (utf16.toUnits t) (λ _. one) (λ _. two) (λ e. absurd (true-not-false e (text-unpaired t points))))))
+      brace-encoded (utf16.toUnits t) refl (λ _. one) (λ _. two) (λ e. absurd (true-not-false e (text-unpaired t points))))))
 
 -- reading gives units, and as many points at most
 module _ (codes : List ℕ) (capacity : ℕ) (l : List ℕ)
@@ -301,7 +304,16 @@ scheme-decode Brace label text = answers _ (points-decoded _ _ label (λ _. refl
 
 brace-encode : (units label : List ℕ) → Answers (1 ∷ 2 ∷ 10 ∷ 3 ∷ []) (brace.encodeOutcome (length label) units) (brace-encoding.labelOf units) label
 unfolding isOneOf
-brace-encode units label = answers _ (brace-encoded _ _ refl units (λ _. refl) (λ _. refl) (λ _. refl))
+brace-encode units label = answers _ (brace-encoded _ _ refl units refl (λ _. refl) (λ _. refl) (λ _. refl))
+
+put-symbols : (units symbols : List ℕ) → Answers (1 ∷ 2 ∷ 10 ∷ 3 ∷ []) (brace.encodeOutcome (length symbols) units) (brace-encoding.symbolsOf units) symbols
+unfolding brace-encoding.labelOf isOneOf
+put-symbols units symbols = answers _ (brace-encoded _ _ refl units (sym (length-bytes (brace-encoding.symbolsOf units))) (λ _. refl) (λ _. refl) (λ _. refl))
+
+read-body : (body units : List ℕ) → Answers (1 ∷ []) (bodyOutcome (length units) body) (brace-decoding.bodyText body) units
+unfolding bodyOutcome isOneOf
+read-body body units =
+    answers _ (good-if _ _ _ (λ _. refl) (λ room. good-done _ refl (omega (arith, body-few body, ltb-false (length units) (length body) room))))
 
 brace-decode : (label units : List ℕ) → Answers (decodeCodes Brace) (brace.decodeOutcome (length units) label) (brace-decoding.textOf label) units
 unfolding decodeCodes isOneOf
@@ -620,6 +632,8 @@ demand1 = record {
   laceDecode = scheme-decode Lace;
   braceEncode = brace-encode;
   braceDecode = brace-decode;
+  bracePutSymbols = put-symbols;
+  braceReadBody = read-body;
   bracePointsEncode = scheme-encode Brace;
   bracePointsDecode = scheme-decode Brace;
   schemeEncode = scheme-encode;

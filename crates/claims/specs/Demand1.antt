@@ -1,6 +1,6 @@
 -- Demand 1: what every public function answers and leaves, whatever it is given, and that a table that is cut is refused as cut. The outcomes and
 -- the values are the definitions that the contracts cite. The order of the refusals is that of their tests; by causes it is said of the
--- conversions, of Base32, of the tables and of the report on two here, and of the schemes and the C interface in demand 2. That a call ends and stays inside what
+-- conversions, of Base32, of the tables and of the report on two tables here, and of the schemes and the C interface in demand 2. That a call ends and stays inside what
 -- it was passed is what the checker proves of each function.
 use Prim.Native.Nat.{ℕ, _+_, _*_, _≤_, _<_}
 use mathlib.Core.Path.{_≡_}
@@ -31,6 +31,7 @@ use Rattle.lace.specs.Decoding as lace-decoding
 use Rattle.lace.specs.Answer as lace
 use Rattle.brace_symbols.specs.Encoding as brace-encoding
 use Rattle.brace_text.specs.Decoding as brace-decoding
+use Rattle.brace_text.specs.Answer.{bodyOutcome}
 use Rattle.brace.specs.Answer as brace
 use Rattle.brace.specs.Points as brace-points
 use Rattle.scheme.specs.declared.Scheme.{Scheme}
@@ -175,6 +176,10 @@ pub record Demand1 : Type 0 where
       → Answers (1 ∷ 2 ∷ 10 ∷ 3 ∷ []) (brace.encodeOutcome (length label) units) (brace-encoding.labelOf units) label
   pub braceDecode : (label units : List ℕ)
       → Answers (decodeCodes Brace) (brace.decodeOutcome (length units) label) (brace-decoding.textOf label) units
+  pub bracePutSymbols : (units symbols : List ℕ)
+      → Answers (1 ∷ 2 ∷ 10 ∷ 3 ∷ []) (brace.encodeOutcome (length symbols) units) (brace-encoding.symbolsOf units) symbols
+  pub braceReadBody : (body units : List ℕ)
+      → Answers (1 ∷ []) (bodyOutcome (length units) body) (brace-decoding.bodyText body) units
   pub bracePointsEncode : (text label : List ℕ)
       → Answers (encodeCodes Brace) (brace-points.encodeOutcome (length label) text) (brace-points.labelOf text) label
   pub bracePointsDecode : (label text : List ℕ)
