@@ -1,6 +1,7 @@
 /* Faults for the runs of the built programs: loaded before the C library, it takes the place of open, read and write.
  * Each number is of an environment variable; where it is not set there is no such fault.
  *   INTERRUPTS     a signal interrupts each call so many times before it is made
+ *   OPEN_FAILS     the opening of this number and every later one fail with EIO; the first is 1
  *   READ_SIZE      a read takes at most so many bytes
  *   READ_FAILS     the read of this number and every later one fail with EIO; the first is 1
  *   WRITE_SIZE     a write takes at most so many bytes
@@ -59,8 +60,11 @@ __attribute__((constructor)) static void begin(void)
 
 int open(const char *path, int flags, ...)
 {
+    static unsigned long opens;
     if (is_interrupted())
         return fails(EINTR);
+    if (is_failing("OPEN_FAILS", ++opens))
+        return fails(EIO);
     return syscall(SYS_open, path, flags, 0);
 }
 

@@ -1,1 +1,1 @@
--- What is printed are the definitions of `nametable_differences` and `streams`.
+-- What is printed is defined in `nametable_differences` and `streams`.

@@ -1,5 +1,5 @@
-// The converter, the schemes and the name table in both forms, exported to C for tests alone. In
-// `answer` each stores five numbers, if it has five elements or more: code (0 when done), position,
+// The converter, the schemes, the name table in both forms and the difference report, exported to C
+// for tests alone. In `answer` each stores five numbers, if it has five elements or more: code (0 when done), position,
 // count, and for an entry of a table reader number and scheme number.
 mod answers;
 
