@@ -61,7 +61,7 @@ extern "C" {
  * buffer is never written to.
  *
  * The functions keep no state, and may be called from any thread at any time. They take no memory from a heap. The archive
- * has 16 KB of code and constants at most and needs two symbols, memcpy and memset. A call needs 1312 bytes of stack to write
+ * has 16 KB of code and constants at most and needs two symbols, memcpy and memset. A call needs 1328 bytes of stack to write
  * and 3896 to read, and what these two need: the most in measured calls, and not proved.
  *
  * The caller owes the following, and nothing is promised otherwise:
