@@ -35,8 +35,8 @@ use Rattle.altdude.specs.Encoding as altdude-encoding
 use Rattle.altdude.specs.Decoding as altdude-decoding
 use Rattle.altdude.specs.Answer as altdude
 use Rattle.altdude.proofs.DecodeLaws as altdude-laws
-use Rattle.lace.specs.Encoding as lace-encoding
-use Rattle.lace.specs.Decoding as lace-decoding
+use Rattle.lace_encoding.specs.Encoding as lace-encoding
+use Rattle.lace_decoding.specs.Decoding as lace-decoding
 use Rattle.lace.specs.Answer as lace
 use Rattle.lace_facts.proofs.Label as lace-laws
 use Rattle.brace_symbols.specs.Encoding as brace-encoding

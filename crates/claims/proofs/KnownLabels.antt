@@ -15,7 +15,7 @@ use Rattle.base32.specs.Bits.{bitOf, fromBits, rowBit, group, regroup}
 use Rattle.base32.specs.Base32.{toQuintets, charactersOf}
 use Rattle.altdude.specs.Symbols.{byteOf}
 use Rattle.altdude.specs.Encoding as altdude
-use Rattle.lace.specs.Encoding as lace
+use Rattle.lace_encoding.specs.Encoding as lace
 use Rattle.claims.specs.KnownLabels.{Cell, altdudeCell, laceCell, Spells, AllSpell, knownLabels, KnownLabels}
 
 -- two rows are the same

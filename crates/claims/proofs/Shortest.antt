@@ -18,10 +18,10 @@ use Rattle.utf16.proofs.RoundTrip.{text-units}
 use Rattle.alphabet.specs.Alphabet.{lace}
 use Rattle.base32.specs.Base32.{quintetCount}
 use Rattle.base32.proofs.Values.{length-charactersOf}
-use Rattle.lace.specs.Octets.{unitOf, Run, run, runUnits, changeBetween, changes, runCount}
-use Rattle.lace.specs.Encoding.{joinRun, longestRuns, runOctets, octetsOf, labelOf}
-use Rattle.lace.proofs.Runs.{lowsUnder, runsAfter, longest-is, runs-join, length-runOctets, octets-number}
-use Rattle.lace.proofs.EncodeLaws.{length-label}
+use Rattle.lace_format.specs.Octets.{unitOf, Run, run, runUnits, changeBetween, changes, runCount}
+use Rattle.lace_encoding.specs.Encoding.{joinRun, longestRuns, runOctets, octetsOf, labelOf}
+use Rattle.lace_encoding.proofs.Runs.{lowsUnder, runsAfter, longest-is, runs-join, length-runOctets, octets-number}
+use Rattle.lace_encoding.proofs.EncodeLaws.{length-label}
 use Rattle.lace_facts.proofs.UnitOctets.{written-runs, written-all}
 use Rattle.claims.specs.Shortest.{IsRun, AreRuns, Cutting, octetsFF, Candidate, labelWith, Shortest}
 

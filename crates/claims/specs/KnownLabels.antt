@@ -3,7 +3,7 @@ use Prim.Native.Nat.{ℕ}
 use mathlib.Core.Path.{_≡_}
 use mathlib.Core.List.{List, [], _∷_}
 use Rattle.altdude.specs.Encoding as altdude
-use Rattle.lace.specs.Encoding as lace
+use Rattle.lace_encoding.specs.Encoding as lace
 
 -- a cell: a text, and its label under a scheme
 pub data Cell : Type 0 where

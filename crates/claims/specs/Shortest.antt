@@ -14,9 +14,9 @@ use Rattle.utf16.specs.Units.{toUnits}
 use Rattle.utf16.specs.Bytes.{bytesOfUnits}
 use Rattle.alphabet.specs.Alphabet.{lace}
 use Rattle.base32.specs.Base32.{charactersOf}
-use Rattle.lace.specs.Prefix.{prefix}
-use Rattle.lace.specs.Octets.{Run, run, runUnits}
-use Rattle.lace.specs.Encoding.{runOctets, octetsOf, labelOf}
+use Rattle.lace_format.specs.Prefix.{prefix}
+use Rattle.lace_format.specs.Octets.{Run, run, runUnits}
+use Rattle.lace_encoding.specs.Encoding.{runOctets, octetsOf, labelOf}
 
 -- one unit or more under one high octet: the high octet is an octet, and so is each low octet
 unfoldable pub IsRun : Run → Type 0

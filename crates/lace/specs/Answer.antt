@@ -1,32 +1,3 @@
--- What encoding and decoding answer, for every input, in the order of the refusals. `reserved` says which rows are kept back.
-use Prim.Native.Nat.{ℕ, _+_}
-use mathlib.Core.Bool.{Bool, not}
-use mathlib.Core.List.{List}
-use lib.Dec.{ltb}
-use lib.ListN.{length}
-use Rattle.basis.specs.Outcome.{Outcome, done, refusedIf}
-use Rattle.ascii.specs.Prefix.{hasPrefix, afterPrefix}
-use Rattle.labels.specs.Tests.{textTests, labelTests}
-use Rattle.alphabet.specs.Alphabet.{lace}
-use Rattle.base32.specs.Answer.{firstOutside}
-use Rattle.lace.specs.Prefix.{prefix}
-use Rattle.lace.specs.Encoding.{labelOf}
-use Rattle.lace.specs.Decoding.{isReadable, labelUnits, textOf}
-
--- encoding a text into a buffer of so many bytes: 1, 2, 4, 6, 3
-unfoldable pub encodeOutcome : (List ℕ → Bool) → ℕ → List ℕ → Outcome
-encodeOutcome reserved capacity t =
-    textTests capacity t
-    (refusedIf (reserved t) 6 0
-    (refusedIf (ltb 63 (length (labelOf t))) 3 0
-    (done (length (labelOf t)))))
-
--- decoding a label into a buffer of so many points: 1, 2, 3, 8, 7, 9, 6
-unfoldable pub decodeOutcome : (List ℕ → Bool) → ℕ → List ℕ → Outcome
-decodeOutcome reserved capacity l =
-    labelTests capacity (length l)
-    (refusedIf (not (hasPrefix prefix l)) 8 0
-    (refusedIf (ltb (firstOutside lace (afterPrefix prefix l)) (length (afterPrefix prefix l))) 7 (4 + firstOutside lace (afterPrefix prefix l))
-    (refusedIf (not (isReadable l)) 9 0
-    (refusedIf (reserved (labelUnits l)) 6 0
-    (done (length (textOf l)))))))
+-- What encoding and decoding answer, each defined beside its function.
+unfoldable pub use Rattle.lace_encoding.specs.Answer.{encodeOutcome}
+unfoldable pub use Rattle.lace_decoding.specs.Answer.{decodeOutcome}

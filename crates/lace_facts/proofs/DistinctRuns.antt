@@ -9,10 +9,10 @@ use native.Mathlib.Omega.{arith}
 use Rattle.basis.specs.Rows.{AllBelow}
 use Rattle.basis.proofs.Tests.{cases}
 use Rattle.basis.proofs.Lists.{below-tail, below-left, below-right}
-use Rattle.lace.specs.Octets.{unitOf, Run, run, runUnits}
-use Rattle.lace.specs.Encoding.{longestRuns, runOctets}
+use Rattle.lace_format.specs.Octets.{unitOf, Run, run, runUnits}
+use Rattle.lace_encoding.specs.Encoding.{longestRuns, runOctets}
 use Rattle.lace_facts.specs.WellFormed.{Counted, Differ}
-use Rattle.lace.proofs.Runs.{lowsUnder, runsAfter, join-is, longest-is}
+use Rattle.lace_encoding.proofs.Runs.{lowsUnder, runsAfter, join-is, longest-is}
 
 -- the first run has another high octet
 abbrev pub Apart : ℕ → List Run → Type 0

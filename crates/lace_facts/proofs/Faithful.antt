@@ -28,15 +28,15 @@ use Rattle.base32.specs.Base32.{charactersOf}
 use Rattle.base32.specs.Answer.{firstOutside}
 use Rattle.alphabet.proofs.Inverse.{lace-alphabet}
 use Rattle.base32.proofs.RoundTrip.{written-inside, written-lawful, written-read, read-written}
-use Rattle.lace.specs.Prefix.{prefix}
-use Rattle.lace.specs.Encoding.{octetsOf, labelOf}
-use Rattle.lace.specs.Decoding.{labelOctets, labelUnits, isReadable, textOf}
+use Rattle.lace_format.specs.Prefix.{prefix}
+use Rattle.lace_encoding.specs.Encoding.{octetsOf, labelOf}
+use Rattle.lace_decoding.specs.Decoding.{labelOctets, labelUnits, isReadable, textOf}
 use Rattle.lace_facts.proofs.PrefixRule.{prefix-is-small, prefix-iff}
 use Rattle.lace_facts.specs.WellFormed.{WellFormed}
 use Rattle.lace_facts.specs.Causes.{labelCauses}
 use Rattle.lace_facts.specs.Codec.{codec}
-use Rattle.lace.proofs.EncodeLaws.{length-label}
-use Rattle.lace.proofs.Runs.{octets-below, units-few}
+use Rattle.lace_encoding.proofs.EncodeLaws.{length-label}
+use Rattle.lace_encoding.proofs.Runs.{octets-below, units-few}
 use Rattle.lace_facts.proofs.UnitOctets.{stand-written, units-written, stand-read, units-below, units-some}
 use Rattle.lace_facts.proofs.Label.{Passes, passes-lawful, passes-stand, passes-paired, passes-case, passes-formed, formed-units, formed-passes, label-octets-below, units-case}
 use Rattle.lace_facts.proofs.Reserved.{reserved, reserved-units}

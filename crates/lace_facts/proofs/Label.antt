@@ -27,10 +27,10 @@ use Rattle.alphabet.proofs.Inverse.{value-same}
 use Rattle.base32.proofs.Bits.{fromBits-same, rowBit-lt, bits-back, row-back}
 use Rattle.base32.proofs.Regroup.{length-toOctets, toOctets-below, count-lawful}
 use Rattle.base32.proofs.Values.{length-values, octets-tabulate}
-use Rattle.lace.specs.Prefix.{prefix}
-use Rattle.lace.specs.Decoding.{unitsOf, standForUnits, labelOctets, labelUnits, isReadable, textOf}
-use Rattle.lace.proofs.Runs.{units-few}
-use Rattle.lace.proofs.DecodeLaws.{units-le}
+use Rattle.lace_format.specs.Prefix.{prefix}
+use Rattle.lace_decoding.specs.Decoding.{unitsOf, standForUnits, labelOctets, labelUnits, isReadable, textOf}
+use Rattle.lace_encoding.proofs.Runs.{units-few}
+use Rattle.lace_decoding.proofs.DecodeLaws.{units-le}
 use Rattle.lace_facts.proofs.PrefixRule.{prefix-iff}
 use Rattle.lace_facts.specs.WellFormed.{OctetsIn, StandFor, Formed}
 use Rattle.lace_facts.proofs.UnitOctets.{stand-read, units-some}

@@ -14,9 +14,9 @@ use Rattle.ascii.proofs.Ldh.{ldh-above}
 use Rattle.ascii.proofs.HostLabel.{host-label-long}
 use Rattle.utf16.specs.Points.{isPoint, firstNotPoint}
 use Rattle.labels.specs.Tests.{textTests}
-use Rattle.lace.specs.Encoding.{labelOf}
+use Rattle.lace_encoding.specs.Encoding.{labelOf}
 use Rattle.lace.specs.Answer.{encodeOutcome}
-use Rattle.lace.proofs.EncodeLaws.{text-long}
+use Rattle.lace_encoding.proofs.EncodeLaws.{text-long}
 
 -- an LDH number is a point
 ldh-point : (x : ℕ) → isLdh x ≡ true → isPoint x ≡ true

@@ -15,7 +15,7 @@ use Rattle.basis.proofs.Lists.{at-past}
 use Rattle.ascii.specs.Case.{isCapital, small}
 use Rattle.ascii.specs.Prefix.{hasPrefix}
 use Rattle.ascii.proofs.Case.{at-small}
-use Rattle.lace.specs.Prefix.{prefix}
+use Rattle.lace_format.specs.Prefix.{prefix}
 
 pub prefix-is-small : map small prefix ≡ prefix
 unfolding small isCapital within both

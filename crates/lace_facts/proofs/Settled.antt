@@ -14,11 +14,11 @@ use Rattle.ascii.specs.Prefix.{hasPrefix, afterPrefix}
 use Rattle.labels.proofs.FirstTests.{settle-text, settle-label}
 use Rattle.alphabet.specs.Alphabet.{lace, isCharacter}
 use Rattle.base32.specs.Answer.{firstOutside}
-use Rattle.lace.specs.Prefix.{prefix}
-use Rattle.lace.specs.Encoding.{labelOf}
+use Rattle.lace_format.specs.Prefix.{prefix}
+use Rattle.lace_encoding.specs.Encoding.{labelOf}
 use Rattle.lace_facts.proofs.PrefixRule.{prefix-iff}
 use Rattle.lace_facts.specs.WellFormed.{Formed}
-use Rattle.lace.specs.Decoding.{isReadable, labelUnits, textOf}
+use Rattle.lace_decoding.specs.Decoding.{isReadable, labelUnits, textOf}
 use Rattle.lace.specs.Answer.{encodeOutcome, decodeOutcome}
 use Rattle.lace_facts.specs.Causes.{OutsideAfterPrefix, NotFormed, OnlyHostLabel, textCauses, labelCauses}
 use Rattle.lace_facts.proofs.Label.{Passes, passes-formed, formed-units, formed-iff}

@@ -12,10 +12,10 @@ use Rattle.basis.proofs.Tests.{by-lt}
 use Rattle.basis.proofs.Lists.{below-tail}
 use Rattle.utf16.specs.Bytes.{bytesOfUnits}
 use Rattle.utf16.proofs.BytePairs.{length-bytesOfUnits}
-use Rattle.lace.specs.Octets.{unitOf, Run, run, runUnits, runCount}
-use Rattle.lace.specs.Encoding.{longestRuns, runOctets, octetsOf}
-use Rattle.lace.specs.Decoding.{unitsOf, standForUnits}
-use Rattle.lace.proofs.Runs.{runs-join, runs-count, length-runOctets, units-few}
+use Rattle.lace_format.specs.Octets.{unitOf, Run, run, runUnits, runCount}
+use Rattle.lace_encoding.specs.Encoding.{longestRuns, runOctets, octetsOf}
+use Rattle.lace_decoding.specs.Decoding.{unitsOf, standForUnits}
+use Rattle.lace_encoding.proofs.Runs.{runs-join, runs-count, length-runOctets, units-few}
 use Rattle.lace_facts.specs.WellFormed.{AllUnits, RunsFrom, StandFor}
 use Rattle.lace_facts.proofs.DistinctRuns.{runs-differ, runs-counted, distinct-runs}
 use Rattle.lace_facts.proofs.UnitOctets.{written-runs, written-all, units-all, units-runs, stand-written, stand-read, units-below, units-some}

@@ -14,13 +14,13 @@ use Rattle.basis.proofs.Tests.{cases, by-lt, both-left, both-right, both-true, 
 use Rattle.basis.proofs.Lists.{below-none, below-more, below-tail, below-right}
 use Rattle.utf16.specs.Bytes.{bytesOfUnits}
 use Rattle.utf16.proofs.BytePairs.{length-bytesOfUnits, unitsOfBytes-bytesOfUnits, bytesOfUnits-unitsOfBytes, below-unitsOfBytes}
-use Rattle.lace.specs.Octets.{unitOf, Run, run, runUnits, runCount}
-use Rattle.lace.specs.Encoding.{longestRuns, runOctets, octetsOf}
+use Rattle.lace_format.specs.Octets.{unitOf, Run, run, runUnits, runCount}
+use Rattle.lace_encoding.specs.Encoding.{longestRuns, runOctets, octetsOf}
 use Rattle.lace_facts.specs.WellFormed.{Counted, Differ}
-use Rattle.lace.specs.Decoding.{mayStand, placeAfter, mayEnd, unitAt, areRuns, unitsFrom, beginsFF, unitsOf, standForUnits}
-use Rattle.lace.specs.declared.decoding.Place.{Place}
-use Rattle.lace.specs.declared.decoding.Place.the-variants.{Count, High, Low}
-use Rattle.lace.proofs.Runs.{runs-join, runs-count, octets-below}
+use Rattle.lace_decoding.specs.Decoding.{mayStand, placeAfter, mayEnd, unitAt, areRuns, unitsFrom, beginsFF, unitsOf, standForUnits}
+use Rattle.lace_decoding.specs.declared.decoding.Place.{Place}
+use Rattle.lace_decoding.specs.declared.decoding.Place.the-variants.{Count, High, Low}
+use Rattle.lace_encoding.proofs.Runs.{runs-join, runs-count, octets-below}
 use Rattle.lace_facts.proofs.DistinctRuns.{Apart, differ-tail, differ-more, runs-differ, counted-some, runs-counted, distinct-runs}
 
 -- the place after a low octet, the last of a run and any other

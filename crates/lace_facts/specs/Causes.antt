@@ -12,8 +12,8 @@ use Rattle.labels.specs.Causes.{TooLong}
 use Rattle.labels.specs.Causes as labels
 use Rattle.alphabet.specs.Alphabet.{lace}
 use Rattle.base32.specs.Causes.{OutsideAt}
-use Rattle.lace.specs.Prefix.{prefix}
-use Rattle.lace.specs.Encoding.{labelOf}
+use Rattle.lace_format.specs.Prefix.{prefix}
+use Rattle.lace_encoding.specs.Encoding.{labelOf}
 use Rattle.lace_facts.specs.WellFormed.{Formed}
 
 -- 8: the prefix is missing

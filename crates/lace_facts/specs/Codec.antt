@@ -3,8 +3,8 @@ use mathlib.Core.Path.{_≡_}
 use Rattle.basis.specs.Codec.{Codec}
 use Rattle.ascii.specs.Case.{SameButCase}
 use Rattle.ascii.specs.Ldh.{isHostLabel}
-use Rattle.lace.specs.Encoding.{labelOf}
-use Rattle.lace.specs.Decoding.{textOf}
+use Rattle.lace_encoding.specs.Encoding.{labelOf}
+use Rattle.lace_decoding.specs.Decoding.{textOf}
 use Rattle.lace.specs.Answer.{encodeOutcome, decodeOutcome}
 use Rattle.lace_facts.specs.Causes.{textCauses, labelCauses}
 

@@ -13,8 +13,8 @@ use Rattle.surrogates.specs.Surrogates.{unpairedAt}
 use Rattle.alphabet.specs.Alphabet.{lace, isCharacter, valuesOf}
 use Rattle.base32.specs.Bits.{rowBit}
 use Rattle.base32.specs.Form.{octetCount, lengthLawful, spareZero}
-use Rattle.lace.specs.Prefix.{prefix}
-use Rattle.lace.specs.Octets.{unitOf, Run, run, runUnits, runCount}
+use Rattle.lace_format.specs.Prefix.{prefix}
+use Rattle.lace_format.specs.Octets.{unitOf, Run, run, runUnits, runCount}
 
 -- the octets are the whole octets of the characters' bits
 pub record OctetsIn (characters octets : List ℕ) : Type 0 where

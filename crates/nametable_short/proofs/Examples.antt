@@ -21,8 +21,8 @@ use Rattle.labels.specs.Tests.{labelTests}
 use Rattle.altdude.specs.Symbols as altdude-symbols
 use Rattle.altdude.specs.Decoding as altdude
 use Rattle.altdude.specs.Answer as altdude-answer
-use Rattle.lace.specs.Octets as lace-octets
-use Rattle.lace.specs.Decoding as lace
+use Rattle.lace_format.specs.Octets as lace-octets
+use Rattle.lace_decoding.specs.Decoding as lace
 use Rattle.lace.specs.Answer as lace-answer
 use Rattle.scheme.specs.Naming.{rowOf, schemes, numberOf, firstWith, ownNumberNames, kindNames, isKnown, schemeNamed}
 use Rattle.scheme.specs.Naming as naming

@@ -15,7 +15,7 @@ use Rattle.altdude.specs.Symbols.{byteOf}
 use Rattle.labels.specs.Tests.{textTests}
 use Rattle.altdude.specs.Encoding as altdude
 use Rattle.altdude.specs.Answer as altdude-answer
-use Rattle.lace.specs.Encoding as lace
+use Rattle.lace_encoding.specs.Encoding as lace
 use Rattle.lace.specs.Answer as lace-answer
 use Rattle.scheme.specs.Naming.{rowOf, schemes, numberOf, kindOf, firstWith, ownNumberNames, isKnown, schemeNamed}
 use Rattle.nametable_write.specs.Writing.{entriesOf, sumOf, listTests, entryWritten, readerIn, entriesWritten, writeOutcome, schemeOf, numberBytes, zeros, filled, entryBytes, entriesBytes, tableOf}

@@ -1,0 +1,2 @@
+-- The laws of reading LACE.
+pub mod DecodeLaws

@@ -1,0 +1,3 @@
+-- The laws of writing LACE.
+pub mod Runs
+pub mod EncodeLaws

@@ -1,0 +1,2 @@
+-- The laws that the count of runs rests on.
+pub mod RowTests

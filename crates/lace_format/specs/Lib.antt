@@ -1,0 +1,3 @@
+-- LACE: the prefix, and runs.
+pub mod Prefix
+pub mod Octets
