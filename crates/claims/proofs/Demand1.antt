@@ -63,10 +63,10 @@ use Rattle.nametable_facts.proofs.Settled.{header-alone-settled, read-settled, 
 use Rattle.nametable_facts.proofs.Truncation.{prefix-truncated}
 use Rattle.nametable_facts.proofs.Whole.{label-long, lone-entry-counts, entry-counts, judged-entry-counts}
 use Rattle.nametable_facts.proofs.ReadBack.{written-counts}
-use Rattle.nametable_short.specs.Format.{shortHeaderKind, roomOf, fewestOf, firstEntry, afterFirst, longOf}
+use Rattle.nametable_short_format.specs.Format.{shortHeaderKind, roomOf, fewestOf, firstEntry, afterFirst, longOf}
 use Rattle.nametable_short.specs.Answer.{wholeTests, shortEntryJudged, shortEntriesJudged, shortReadOutcome, shortEntryText, shortFindOutcome, moveOutcome, toShortOutcome, toLongOutcome}
 use Rattle.nametable_short.specs.Answer as short
-use Rattle.nametable_short.proofs.EntryLaws.{room-small, long-size}
+use Rattle.nametable_short_format.proofs.EntryLaws.{room-small, long-size}
 use Rattle.nametable_short.proofs.MoveLaws.{move-refused}
 use Rattle.nametable_short_facts.proofs.Settled.{fewest-some, short-read-settled, short-find-settled, to-short-settled, to-long-settled}
 use Rattle.nametable_short_facts.proofs.Counts.{short-entry-counts}

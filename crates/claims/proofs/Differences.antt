@@ -14,10 +14,10 @@ use Rattle.basis.proofs.Lists.{row-below}
 use Rattle.nametable_format.specs.Format.{headerLength, mostEntries, numberAt, countOf, entryAt, kindOf, readerOf, schemeIn}
 use Rattle.nametable.specs.Answer.{readOutcome, textIn}
 use Rattle.nametable.proofs.TableLaws.{reader-part, read-table}
-use Rattle.nametable_short.specs.Format.{shortHeaderKind, shortLength, firstEntry, afterFirst, fromEntry, shortEntryAt}
+use Rattle.nametable_short_format.specs.Format.{shortHeaderKind, shortLength, firstEntry, afterFirst, fromEntry, shortEntryAt}
 use Rattle.nametable_short.specs.Answer.{shortReadOutcome, toShort, toLong}
-use Rattle.nametable_short.proofs.EntryLaws.{long-reader, first-reader}
-use Rattle.nametable_short.proofs.TableLaws.{short-read-table}
+use Rattle.nametable_short_format.proofs.EntryLaws.{long-reader, first-reader}
+use Rattle.nametable_short_read.proofs.TableLaws.{short-read-table}
 use Rattle.nametable_short_facts.proofs.Moved.{short-reads, long-back, long-reads, long-entry}
 use Rattle.report.specs.Lines.{leftWord, rightWord, sideRefusedLine, countsLine}
 use Rattle.nametable_differences.specs.declared.Difference.{Difference}

@@ -11,7 +11,7 @@ use Rattle.basis.proofs.Tests.{cases, within-high}
 use Rattle.basis.proofs.Outcome.{by-test, done-not-refused}
 use Rattle.nametable_format.specs.Format.{headerKind, headerLength, mostEntries, entryLength, countOf, readerOf}
 use Rattle.nametable.specs.Answer.{headerTests, lengthTests, entriesJudged, readOutcome}
-use Rattle.nametable_short.specs.Format.{shortHeaderKind, afterFirst}
+use Rattle.nametable_short_format.specs.Format.{shortHeaderKind, afterFirst}
 use Rattle.nametable_short.specs.Answer.{wholeTests, shortEntriesJudged, shortReadOutcome}
 use Rattle.nametable_differences.specs.Differences.{isShort, verdictOf}
 

@@ -11,9 +11,9 @@ use Rattle.scheme.specs.Naming as naming
 use Rattle.nametable_format.specs.Format.{textCapacity, countOf, entryAt, readerOf, labelIn, schemeIn}
 use Rattle.nametable.specs.Answer.{readOutcome, textIn, entryText, findOutcome, entryFrom}
 use Rattle.nametable.proofs.TableLaws.{read-table, found-no-room, found-past}
-use Rattle.nametable_short.specs.Format.{shortEntryAt, longOf}
+use Rattle.nametable_short_format.specs.Format.{shortEntryAt, longOf}
 use Rattle.nametable_short.specs.Answer.{shortReadOutcome, shortFindOutcome, toShort, toLong, moveOutcome, toShortOutcome, toLongOutcome}
-use Rattle.nametable_short.proofs.EntryLaws.{long-reader}
+use Rattle.nametable_short_format.proofs.EntryLaws.{long-reader}
 use Rattle.nametable_short.proofs.MoveLaws.{move-fits}
 use Rattle.nametable_short_facts.proofs.Moved.{short-reads, long-back, short-entry, short-finds, long-table-size, long-reads, short-back, long-entry, long-finds, own-scheme, own-label, short-longest, move-done}
 use Rattle.nametable_short_facts.proofs.Truncation.{short-prefix-truncated, short-prefix-not-found}

@@ -10,7 +10,7 @@ use Rattle.basis.specs.Outcome.{done, refused, bufferAfter}
 use Rattle.scheme.specs.Naming as naming
 use Rattle.nametable_format.specs.Format.{entryAt, readerOf, labelIn, schemeIn}
 use Rattle.nametable.specs.Answer.{readOutcome, entryText, findOutcome, entryFrom}
-use Rattle.nametable_short.specs.Format.{shortEntryAt, longOf}
+use Rattle.nametable_short_format.specs.Format.{shortEntryAt, longOf}
 use Rattle.nametable_short.specs.Answer.{shortReadOutcome, shortEntryText, shortFindOutcome, toShort, toLong, toShortOutcome, toLongOutcome}
 use Rattle.nametable_short_facts.specs.Causes.{shortLabelIn}
 

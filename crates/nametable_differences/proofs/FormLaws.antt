@@ -14,7 +14,7 @@ use Rattle.nametable.specs.Answer.{readOutcome}
 use Rattle.nametable.proofs.TableLaws.{read-table}
 use Rattle.report.specs.Lines.{leftWord, rightWord, sideRefusedLine}
 use Rattle.nametable_short.specs.Answer.{shortReadOutcome, toLong, moveOutcome, toLongOutcome}
-use Rattle.nametable_short.proofs.TableLaws.{short-read-table}
+use Rattle.nametable_short_read.proofs.TableLaws.{short-read-table}
 use Rattle.nametable_short_facts.proofs.Moved.{long-table-size, long-reads}
 use Rattle.nametable_differences.specs.Differences.{isShort, verdictOf, inLongForm, rowsOf}
 use Rattle.nametable_differences.specs.Report.{rowsReport, reportAfter, reportOf}

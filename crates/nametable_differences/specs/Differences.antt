@@ -10,7 +10,7 @@ use Rattle.basis.specs.Outcome.{Outcome}
 use Rattle.scheme.specs.Naming as naming
 use Rattle.nametable_format.specs.Format.{countOf, entryAt, readerOf, schemeIn}
 use Rattle.nametable.specs.Answer.{readOutcome, textIn}
-use Rattle.nametable_short.specs.Format.{shortHeaderKind}
+use Rattle.nametable_short_format.specs.Format.{shortHeaderKind}
 use Rattle.nametable_short.specs.Answer.{shortReadOutcome, toLong}
 use Rattle.nametable_differences.specs.declared.Difference.{Difference}
 use Rattle.nametable_differences.specs.declared.Difference.the-variants.{Same, OtherText, Respelled, OnlyLeft, OnlyRight}

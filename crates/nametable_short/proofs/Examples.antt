@@ -29,7 +29,7 @@ use Rattle.scheme.specs.Naming as naming
 use Rattle.nametable_format.specs.Format.{numberAt, countOf, kindOf, readerOf, lengthOf, labelIn, isFilled, schemeIn}
 use Rattle.nametable.specs.Answer.{headerTests, lengthTests, formTests, entryJudged, entriesJudged, readOutcome}
 use Rattle.nametable_write.specs.Writing.{zeros}
-use Rattle.nametable_short.specs.Format.{roomOf, fewestOf, kindFor, shortLength, firstEntry, afterFirst, fitted, kindNamed, longOf, shortOf}
+use Rattle.nametable_short_format.specs.Format.{roomOf, fewestOf, kindFor, shortLength, firstEntry, afterFirst, fitted, kindNamed, longOf, shortOf}
 use Rattle.nametable_short.specs.Answer.{wholeTests, shortEntryJudged, shortEntriesJudged, shortReadOutcome, headerAs, shortEntries, longEntries, toShort, toLong, moveOutcome, toShortOutcome, toLongOutcome}
 
 -- readers 7 (AltDUDE, 3 and this letter) and 300 (LACE, lq--74apy), in the long form

@@ -1,6 +1,3 @@
--- Laws on the short form, and examples.
-pub mod EntryLaws
-pub mod StepLaws
-pub mod TableLaws
+-- Laws on moving a table, and examples.
 pub mod MoveLaws
 mod Examples

@@ -13,10 +13,9 @@ use Rattle.basis.proofs.Lists.{sets-front}
 use Rattle.basis.proofs.Stores.{StoringFrom, Stored, storing-piece, stored-append, stored-part}
 use Rattle.nametable_format.specs.Format.{headerKind, headerLength, entryLength, lengthStart, countOf, tableLength, entryAt, lengthOf}
 use Rattle.nametable_format.proofs.Parts.{entry-part}
-use Rattle.nametable_short.specs.Format.{shortHeaderKind, shortLabelStart, roomOf, kindFor, shortLength, firstEntry, afterFirst, longOf, shortOf}
+use Rattle.nametable_short_format.specs.Format.{shortHeaderKind, shortLabelStart, roomOf, kindFor, shortLength, firstEntry, afterFirst, longOf, shortOf}
 use Rattle.nametable_short.specs.Answer.{headerAs, shortEntries, longEntries, toShort, toLong, moveOutcome}
-use Rattle.nametable_short.specs.Internal.{EndsAt}
-use Rattle.nametable_short.proofs.EntryLaws.{long-size, short-size}
+use Rattle.nametable_short_format.proofs.EntryLaws.{EndsAt, long-size, short-size}
 
 -- all is stored, and the index after it is this one
 pub storing-done : (old values now : List ℕ) (at : ℕ) → Stored old headerLength values now at → Stored old headerLength values now (headerLength + length values)

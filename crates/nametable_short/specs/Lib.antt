@@ -1,4 +1,2 @@
--- The short form of the name table: its format, and what its functions answer.
-pub mod Format
+-- The short form of the name table: what its functions answer.
 pub mod Answer
-pub mod Internal

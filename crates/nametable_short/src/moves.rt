@@ -1,7 +1,4 @@
 // A table that was judged whole, stored in the other form.
-use crate::SHORT_HEADER_KIND;
-use crate::forms;
-use crate::forms::SHORT_LABEL_START;
 use basis::ByteCount;
 use basis::BytesAnswer;
 use basis::ErrorCode;
@@ -10,6 +7,8 @@ use nametable_format::ENTRY_LENGTH;
 use nametable_format::HEADER_KIND;
 use nametable_format::HEADER_LENGTH;
 use nametable_format::LENGTH_START;
+use nametable_short_format::SHORT_HEADER_KIND;
+use nametable_short_format::SHORT_LABEL_START;
 ghost use mathlib.Core.Path.{_≡_};
 ghost use Prim.Native.Nat.{_+_, _≤_};
 ghost use lib.ListN.{length, drop};
@@ -38,8 +37,10 @@ fn short_bytes(table: &[u8], count: usize) -> usize
     let mut bytes = HEADER_LENGTH;
     let mut i = 0;
     while i < count {
-        let kind = forms::kind_for(table[HEADER_LENGTH + ENTRY_LENGTH * i + LENGTH_START]);
-        bytes += SHORT_LABEL_START + forms::room_of(kind);
+        let kind = nametable_short_format::kind_for(
+            table[HEADER_LENGTH + ENTRY_LENGTH * i + LENGTH_START],
+        );
+        bytes += SHORT_LABEL_START + nametable_short_format::room_of(kind);
         i += 1;
     }
     bytes
@@ -56,9 +57,9 @@ fn put_short_entries(table: &[u8], count: usize, short: &mut [u8])
     while i < count {
         let start = HEADER_LENGTH + ENTRY_LENGTH * i;
         let end = start + ENTRY_LENGTH;
-        let kind = forms::kind_for(table[start + LENGTH_START]);
-        let next = at + (SHORT_LABEL_START + forms::room_of(kind));
-        forms::put_short(&table[start..end], &mut short[at..next]);
+        let kind = nametable_short_format::kind_for(table[start + LENGTH_START]);
+        let next = at + (SHORT_LABEL_START + nametable_short_format::room_of(kind));
+        nametable_short_format::put_short(&table[start..end], &mut short[at..next]);
         at = next;
         i += 1;
     }
@@ -88,9 +89,9 @@ fn put_long_entries(short: &[u8], count: usize, table: &mut [u8])
     let mut at = HEADER_LENGTH;
     let mut i = 0;
     while i < count {
-        let end = forms::end_of(short, start);
+        let end = nametable_short_format::end_of(short, start);
         let next = at + ENTRY_LENGTH;
-        forms::put_long(&short[start..end], &mut table[at..next]);
+        nametable_short_format::put_long(&short[start..end], &mut table[at..next]);
         start = end;
         at = next;
         i += 1;

@@ -10,9 +10,9 @@ use Rattle.basis.proofs.Outcome.{both-done, passed, done-count}
 use Rattle.nametable_format.specs.Format.{textCapacity, countOf, kindOf}
 use Rattle.nametable.specs.Answer.{foundOutcome}
 use Rattle.nametable_facts.proofs.Whole.{judged-short}
-use Rattle.nametable_short.specs.Format.{roomOf, fewestOf, shortEntryAt, longOf}
+use Rattle.nametable_short_format.specs.Format.{roomOf, fewestOf, shortEntryAt, longOf}
 use Rattle.nametable_short.specs.Answer.{shortEntryJudged, shortReadOutcome, shortEntryText, shortFindOutcome}
-use Rattle.nametable_short.proofs.TableLaws.{short-read-table}
+use Rattle.nametable_short_read.proofs.TableLaws.{short-read-table}
 
 -- each entry of a short table that reads whole has at most 63 points
 short-entry-short : (t : List ℕ) (n index : ℕ) → shortReadOutcome t ≡ done n → index < countOf t → length (shortEntryText t index) ≤ textCapacity

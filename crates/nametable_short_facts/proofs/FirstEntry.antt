@@ -7,10 +7,10 @@ use lib.Seq.{take-at, drop-at}
 use native.Mathlib.Omega.{arith}
 use Rattle.basis.specs.Outcome.{done}
 use Rattle.nametable_format.specs.Format.{numberAt, kindOf, readerOf}
-use Rattle.nametable_short.specs.Format.{roomOf, shortLength, firstEntry, afterFirst}
+use Rattle.nametable_short_format.specs.Format.{roomOf, shortLength, firstEntry, afterFirst}
 use Rattle.nametable_short.specs.Answer.{shortEntryJudged, shortEntriesJudged}
-use Rattle.nametable_short.proofs.EntryLaws.{first-kind, first-reader, first-size}
-use Rattle.nametable_short.proofs.TableLaws.{GoodFrom, first-good, first-passed}
+use Rattle.nametable_short_format.proofs.EntryLaws.{first-kind, first-reader, first-size}
+use Rattle.nametable_short_read.proofs.TableLaws.{GoodFrom, first-good, first-passed}
 
 -- a whole entry is the first of the bytes that begin with it
 module _ (e rest : List ℕ) (long : length e ≡ shortLength (kindOf e)) where

@@ -21,9 +21,10 @@ use Rattle.scheme.proofs.Naming.{number-names, kind-names, kind-back, number-ba
 use Rattle.nametable_format.specs.Format.{entryLength, labelCapacity, labelStart, numberAt, kindOf, readerOf, lengthOf, labelIn, isFilled, schemeIn}
 use Rattle.nametable.specs.Answer.{entryJudged}
 use Rattle.nametable_facts.proofs.Rewritten.{Read, judged-read}
-use Rattle.nametable_short.specs.Format.{schemeStart, shortLengthStart, shortLabelStart, roomOf, kindFor, shortLength, fitted, kindNamed, longOf, shortOf}
+use Rattle.nametable_short_format.specs.Format.{schemeStart, shortLengthStart, shortLabelStart, roomOf, kindFor, shortLength, fitted, kindNamed, longOf, shortOf}
 use Rattle.nametable_short.specs.Answer.{shortEntryJudged}
-use Rattle.nametable_short.proofs.EntryLaws.{room-small, kind-room, kind-some, other-kind-judged, long-length, long-judged, short-size}
+use Rattle.nametable_short_format.proofs.EntryLaws.{room-small, kind-room, kind-some, long-length, short-size}
+use Rattle.nametable_short_read.proofs.VerdictLaws.{other-kind-judged, long-judged}
 use Rattle.nametable_short_facts.specs.Causes.{shortLabelIn}
 use Rattle.nametable_short_facts.proofs.FirstEntry.{WholeEntry}
 

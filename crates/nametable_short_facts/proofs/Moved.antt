@@ -17,11 +17,11 @@ use Rattle.nametable_format.specs.Format.{headerLength, entryLength, textCapaci
 use Rattle.nametable.specs.Answer.{entriesJudged, readOutcome, textIn, foundOutcome, findOutcome}
 use Rattle.nametable.proofs.TableLaws.{header-passed, by-entries, reader-part, Table, read-table}
 use Rattle.nametable_facts.proofs.Rewritten.{entries-read, entry-whole}
-use Rattle.nametable_short.specs.Format.{shortHeaderKind, schemeStart, shortLength, firstEntry, afterFirst, fromEntry, shortEntryAt, longOf, shortOf}
+use Rattle.nametable_short_format.specs.Format.{shortHeaderKind, schemeStart, shortLength, firstEntry, afterFirst, fromEntry, shortEntryAt, longOf, shortOf}
 use Rattle.nametable_short.specs.Answer.{shortEntryJudged, shortEntriesJudged, shortReadOutcome, shortFindOutcome, headerAs, shortEntries, longEntries, toShort, toLong, moveOutcome}
-use Rattle.nametable_short.proofs.EntryLaws.{room-small, long-reader, long-size, first-size}
+use Rattle.nametable_short_format.proofs.EntryLaws.{room-small, long-reader, long-size, first-size}
 use Rattle.nametable_short.proofs.MoveLaws.{long-entries-size}
-use Rattle.nametable_short.proofs.TableLaws.{ShortTable, short-read-table, short-entries-read}
+use Rattle.nametable_short_read.proofs.TableLaws.{ShortTable, short-read-table, short-entries-read}
 use Rattle.nametable_short_facts.specs.Causes.{shortLabelIn}
 use Rattle.nametable_short_facts.proofs.FirstEntry.{first-appended, after-appended, first-then, entry-taken, entry-put}
 use Rattle.nametable_short_facts.proofs.Forms.{heads, number-again, own-label-bytes, short-long, short-reader, long-again, short-whole, short-again, long-good}

@@ -24,9 +24,9 @@ use Rattle.nametable_format.specs.Format.{headerLength, textCapacity, labelStar
 use Rattle.nametable.specs.Answer.{formTests, entryJudged}
 use Rattle.nametable_write.specs.Writing.{schemeOf}
 use Rattle.nametable_facts.proofs.Settled.{outside-iff, some-not, unknown-scheme-iff, header-settled, found-settled, read-settled}
-use Rattle.nametable_short.specs.Format.{shortHeaderKind, schemeStart, shortLengthStart, shortLabelStart, roomOf, fewestOf, shortLength, firstEntry, afterFirst, longOf}
+use Rattle.nametable_short_format.specs.Format.{shortHeaderKind, schemeStart, shortLengthStart, shortLabelStart, roomOf, fewestOf, shortLength, firstEntry, afterFirst, longOf}
 use Rattle.nametable_short.specs.Answer.{wholeTests, shortEntryJudged, shortEntriesJudged, shortReadOutcome, shortEntryText, shortFindOutcome, toShort, toLong, moveOutcome, toShortOutcome, toLongOutcome}
-use Rattle.nametable_short.proofs.EntryLaws.{by-kind, room-small, long-length, long-reader, long-at, first-kind, first-size}
+use Rattle.nametable_short_format.proofs.EntryLaws.{by-kind, room-small, long-length, long-reader, long-at, first-kind, first-size}
 use Rattle.nametable_short_facts.proofs.Forms.{kind-named, long-entry-label}
 use Rattle.nametable_short_facts.specs.Causes.{NoShortKind, RoomNotFilled, shortLabelIn, shortEntryCauses, shortEntriesCauses, shortTableCauses, shortFindCauses, moveCauses, toShortCauses, toLongCauses}
 

@@ -13,9 +13,9 @@ use Rattle.basis.proofs.Outcome.{stop-equal, pass-equal, stop-below, passed}
 use Rattle.nametable_format.specs.Format.{headerLength, textCapacity, kindOf, readerOf}
 use Rattle.nametable.proofs.TableLaws.{found-refused}
 use Rattle.nametable_facts.proofs.Truncation.{count-prefix, header-truncated}
-use Rattle.nametable_short.specs.Format.{shortHeaderKind, roomOf, shortLength, firstEntry, afterFirst}
+use Rattle.nametable_short_format.specs.Format.{shortHeaderKind, roomOf, shortLength, firstEntry, afterFirst}
 use Rattle.nametable_short.specs.Answer.{wholeTests, shortEntriesJudged, shortReadOutcome, shortFindOutcome}
-use Rattle.nametable_short.proofs.TableLaws.{GoodFrom, first-good, short-read-table, short-entries-read}
+use Rattle.nametable_short_read.proofs.TableLaws.{GoodFrom, first-good, short-read-table, short-entries-read}
 use Rattle.nametable_short_facts.proofs.FirstEntry.{entry-taken, entry-put}
 
 -- a prefix of a list, parted at an index within it

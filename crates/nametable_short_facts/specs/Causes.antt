@@ -10,7 +10,7 @@ use Rattle.scheme.specs.Coding.{codecOf}
 use Rattle.nametable_format.specs.Format.{headerLength, countOf, kindOf, readerOf}
 use Rattle.nametable_write.specs.Writing.{schemeOf}
 use Rattle.nametable_facts.specs.Causes.{UnknownScheme, Outside, headerCauses, tableCauses, foundCauses}
-use Rattle.nametable_short.specs.Format.{shortHeaderKind, schemeStart, shortLengthStart, shortLabelStart, roomOf, shortLength, firstEntry, afterFirst}
+use Rattle.nametable_short_format.specs.Format.{shortHeaderKind, schemeStart, shortLengthStart, shortLabelStart, roomOf, shortLength, firstEntry, afterFirst}
 use Rattle.nametable_short.specs.Answer.{toShort, toLong}
 
 -- the kind is none of a short entry

@@ -23,7 +23,7 @@ ghost use Rattle.brace.specs.Answer.{encodeOutcome as braceEncodeOutcome, decod
 ghost use Rattle.nametable_format.specs.Format.{entryAt};
 ghost use Rattle.nametable.specs.Answer.{headerOutcome, readOutcome, findOutcome, textIn, loneEntryOutcome, judgedEntryOutcome, entryFrom, entryText};
 ghost use Rattle.nametable_write.specs.Writing.{entriesOf, writeOutcome, tableOf};
-ghost use Rattle.nametable_short.specs.Format.{shortEntryAt, longOf};
+ghost use Rattle.nametable_short_format.specs.Format.{shortEntryAt, longOf};
 ghost use Rattle.nametable_short.specs.Answer.{shortReadOutcome, shortEntryText, shortFindOutcome, toShort, toLong, toShortOutcome, toLongOutcome};
 ghost use Rattle.nametable_differences.specs.Report.{reportOf, reportOutcome};
 ghost use Rattle.test_exports.specs.Answer.{numbersOf, entryNumbersOf, answerAfter};

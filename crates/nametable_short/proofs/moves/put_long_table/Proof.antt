@@ -8,7 +8,7 @@ use Rattle.basis.specs.Outcome.{bytesOutcome}
 use Rattle.basis.proofs.Outcome.{refusal-leaves}
 use Rattle.nametable_format.specs.Format.{headerKind, headerLength}
 use Rattle.nametable_short.specs.Answer.{longEntries, toLongOutcome}
-use Rattle.nametable_short.proofs.TableLaws.{short-read-table}
+use Rattle.nametable_short_read.proofs.TableLaws.{short-read-table}
 use Rattle.nametable_short.proofs.MoveLaws.{long-entries-size, long-made, move-no-room, moved-left}
 use Rattle.nametable_short.proofs.moves.put_long_table.Statement.{statement}
 use Rattle.nametable_short.proofs.moves.put_long_table.Tie as tie

@@ -1,12 +1,13 @@
 -- `moves::put_short_entries` meets its contract: the short entries from i on are left to store.
 use Prim.Native.Nat.{_+_, _-_, _*_, _≤_}
-use mathlib.Core.Path.{_≡_, refl}
+use mathlib.Core.Path.{_≡_, refl, sym, _∙_}
 use native.Mathlib.Omega.{arith}
 use lib.ListN.{drop}
 use borrow.Author.Needs.{needs}
 use Rattle.basis.specs.Internal.{StoringFrom}
 use Rattle.basis.proofs.Stores.{storing-all, storing-end}
 use Rattle.nametable_format.specs.Format.{headerLength}
+use Rattle.nametable_short_format.proofs.EntryLaws.{short-size, filled-own}
 use Rattle.nametable_short.specs.Answer.{shortEntries}
 use Rattle.nametable_short.proofs.MoveLaws.{storing-done, shortLeft, short-none, next-inside, put-short-room, put-short-turn}
 use Rattle.nametable_short.proofs.moves.put_short_entries.Statement.{statement}
@@ -28,15 +29,6 @@ next-in-short c =
     let s = l .before .before .before in
     next-inside (s .args .table .now) (s .args .count) (l .loop .i) (t .loop-test .taken) (s .args .short .now) (l .loop .short) (l .loop .at) refl (k .kind-for .ensures) (r .room-of .ensures .0) (s .pre .1) (l .loop .inv .2)
 
-put-short-requires : tie.Need-put-short-requires Inv-loop μ-loop
-put-short-requires c κs =
-    let r = c .before .before in
-    let k = r .before in
-    let t = k .before .before in
-    let l = t .before in
-    let s = l .before .before .before in
-    put-short-room (s .args .table .now) (s .args .count) (l .loop .i) (t .loop-test .taken) refl (k .kind-for .ensures) (r .room-of .ensures .0) (l .loop .short) (l .loop .at) (next-in-short (c .before))
-
 loop-again : tie.Need-loop-again Inv-loop μ-loop
 loop-again c =
     let p = c .before .before in
@@ -45,7 +37,8 @@ loop-again c =
     let t = k .before .before in
     let l = t .before in
     let s = l .before .before .before in
-    (omega arith, omega arith, put-short-turn (s .args .table .now) (s .args .count) (l .loop .i) (t .loop-test .taken) refl (k .kind-for .ensures) (r .room-of .ensures .0) (l .loop .short) (l .loop .at) (next-in-short (p .before .before)) (s .args .short .now) _ (p .put-short .ensures) (l .loop .inv .2))
+    let room = put-short-room (s .args .table .now) (s .args .count) (l .loop .i) (t .loop-test .taken) refl (k .kind-for .ensures) (r .room-of .ensures .0) (l .loop .short) (l .loop .at) (next-in-short (p .before .before)) in
+    (omega arith, omega arith, put-short-turn (s .args .table .now) (s .args .count) (l .loop .i) (t .loop-test .taken) refl (k .kind-for .ensures) (r .room-of .ensures .0) (l .loop .short) (l .loop .at) (next-in-short (p .before .before)) (s .args .short .now) _ (p .put-short .ensures ∙ filled-own _ _ (room ∙ sym (short-size _))) (l .loop .inv .2))
 
 pub put-short-entries-spec : {M : Type 1} → statement M
 put-short-entries-spec =
@@ -55,6 +48,6 @@ put-short-entries-spec =
     (λ c. omega arith) (λ c. omega arith) (λ c. omega arith) (λ c. omega arith) (λ c. omega arith) (λ c κs. search needs) (λ c κs. search needs)
     (λ c. search needs) (λ c. omega arith) (λ c. omega arith) (λ c. omega arith) (λ c. omega arith) (λ c. omega arith) (λ c. omega arith)
     next-in-short
-    put-short-requires (λ c. omega arith) (λ c. omega arith) loop-again
+    (λ c κs. search needs) (λ c. omega arith) (λ c. omega arith) loop-again
     (λ c. c .before .loop .inv .2 .long)
     (λ c. let l = c .before in let s = l .before .before .before in storing-done (s .args .short .now) _ _ _ (storing-end (l .loop .inv .2) (short-none (s .args .table .now) (s .args .count) (l .loop .i) (c .loop-test .left)))))

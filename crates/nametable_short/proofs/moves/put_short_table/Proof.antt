@@ -5,7 +5,7 @@ use borrow.Author.Needs.{needs}
 use Rattle.basis.specs.Outcome.{bytesOutcome}
 use Rattle.basis.proofs.Outcome.{refusal-leaves}
 use Rattle.nametable.proofs.TableLaws.{read-table}
-use Rattle.nametable_short.specs.Format.{shortHeaderKind}
+use Rattle.nametable_short_format.specs.Format.{shortHeaderKind}
 use Rattle.nametable_short.specs.Answer.{toShortOutcome}
 use Rattle.nametable_short.proofs.MoveLaws.{short-made, move-no-room, moved-left}
 use Rattle.nametable_short.proofs.moves.put_short_table.Statement.{statement}

@@ -1,0 +1,2 @@
+-- Laws on one short entry.
+pub mod EntryLaws

@@ -1,0 +1,2 @@
+-- The format of the short form of the name table.
+pub mod Format

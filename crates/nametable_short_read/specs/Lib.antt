@@ -1,0 +1,3 @@
+-- Reading the short form of the name table: what its functions answer.
+pub mod Answer
+pub mod Internal
