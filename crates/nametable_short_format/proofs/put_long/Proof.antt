@@ -5,12 +5,13 @@ use mathlib.Core.List.{[], _∷_}
 use native.Mathlib.Omega.{arith}
 use lib.ListN.{length, length-set}
 use borrow.Author.Needs.{needs}
+use Rattle.nametable_short_format.specs.Format.{longOf}
 use Rattle.nametable_short_format.proofs.EntryLaws.{room-long, long-stored, long-size, filled-other, filled-own, length-filled}
 use Rattle.nametable_short_format.proofs.put_long.Statement.{statement}
 use Rattle.nametable_short_format.proofs.put_long.Tie as tie
 
 returns : tie.Need-returns
-returns c = let s = c .before .before .before in filled-other _ _ (λ e. c .if1 .taken (e ∙ long-size (s .args .short .now)))
+returns c = let s = c .before .before .before in filled-other (longOf (s .args .short .now)) (s .args .entry .now) (λ e. c .if1 .taken (e ∙ long-size (s .args .short .now)))
 
 returns-2 : tie.Need-returns-2
 returns-2 c =

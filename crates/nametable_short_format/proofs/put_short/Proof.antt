@@ -5,6 +5,7 @@ use mathlib.Core.List.{[], _∷_}
 use native.Mathlib.Omega.{arith}
 use lib.ListN.{length, length-set}
 use borrow.Author.Needs.{needs}
+use Rattle.nametable_short_format.specs.Format.{shortOf}
 use Rattle.nametable_short_format.proofs.EntryLaws.{room-long, short-stored, short-bounds, short-size, short-sized, filled-other, filled-own, length-filled}
 use Rattle.nametable_short_format.proofs.put_short.Statement.{statement}
 use Rattle.nametable_short_format.proofs.put_short.Tie as tie
@@ -15,7 +16,7 @@ returns c =
     let k = r .before in
     let n = k .before in
     let s = n .before .before .before in
-    filled-other _ _ (λ e. c .if1 .taken (e ∙ short-size (s .args .entry .now) ∙ sym (short-sized (s .args .entry .now) (n .byte-at .ensures) (k .kind-for .ensures) (r .room-of .ensures .0))))
+    filled-other (shortOf (s .args .entry .now)) (s .args .short .now) (λ e. c .if1 .taken (e ∙ short-size (s .args .entry .now) ∙ sym (short-sized (s .args .entry .now) (n .byte-at .ensures) (k .kind-for .ensures) (r .room-of .ensures .0))))
 
 returns-2 : tie.Need-returns-2
 returns-2 c =
