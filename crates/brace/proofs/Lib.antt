@@ -1,6 +1,2 @@
--- The laws of BRACE that its functions rest on.
-pub mod Comparison
-pub mod Plain
-pub mod Copying
-pub mod DecodeLaws
+-- The laws of BRACE of points.
 pub mod PointsLaws

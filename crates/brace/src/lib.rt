@@ -1,21 +1,16 @@
 // BRACE: encoding a text as a label, and decoding a label.
 mod bytes;
-mod decoding;
 pub mod points;
-mod signature;
 
 use basis::ByteCount;
 use basis::BytesAnswer;
 use basis::ErrorCode;
-use labels::Check;
-use utf16::UnitsAnswer;
+pub use brace_decoding::decode;
 ghost use mathlib.Core.Path.{_≡_};
 ghost use lib.ListN.{length};
 ghost use Rattle.basis.specs.Outcome.{bytesOutcome, bufferAfter};
-ghost use Rattle.utf16.specs.Answer.{unitsOutcome};
 ghost use Rattle.brace_symbols.specs.Encoding.{labelOf};
-ghost use Rattle.brace_text.specs.Decoding.{textOf};
-ghost use Rattle.brace.specs.Answer.{encodeOutcome, decodeOutcome};
+ghost use Rattle.brace.specs.Answer.{encodeOutcome};
 
 // Writes the label of a text.
 pub fn encode(units: &[u16], label: &mut [u8]) -> BytesAnswer
@@ -35,22 +30,4 @@ pub fn encode(units: &[u16], label: &mut [u8]) -> BytesAnswer
             BytesAnswer::Bytes(ByteCount(written))
         }
     }
-}
-
-// Reads the text of a label.
-pub fn decode(label: &[u8], units: &mut [u16]) -> UnitsAnswer
-    ensures { λ r. ⌜ unitsOutcome r ≡ decodeOutcome (length (now (units .entry))) (now (label .entry)) ⌝ }
-    ensures { λ _. ⌜ now (units .exit) ≡ bufferAfter (decodeOutcome (length (now (units .entry))) (now (label .entry))) (textOf (now (label .entry))) (now (units .entry)) ⌝ }
-{
-    let check = labels::check_label(label.len(), units.len());
-    match check {
-        Check::Error { code, position } => {
-            return UnitsAnswer::Error { code, position };
-        }
-        Check::Passed => {}
-    }
-    if signature::label_is_signed(label) {
-        return decoding::decode_signed(label, units);
-    }
-    decoding::decode_plain(label, units)
 }

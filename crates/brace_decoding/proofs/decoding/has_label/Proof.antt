@@ -2,9 +2,9 @@
 use mathlib.Core.Path.{sym, _∙_}
 use lib.Seq.{length-take-le}
 use borrow.Author.Needs.{needs}
-use Rattle.brace.proofs.Comparison.{symbols-fit, symbols-compared}
-use Rattle.brace.proofs.decoding.has_label.Statement.{statement}
-use Rattle.brace.proofs.decoding.has_label.Tie as tie
+use Rattle.brace_decoding.proofs.Comparison.{symbols-fit, symbols-compared}
+use Rattle.brace_decoding.proofs.decoding.has_label.Statement.{statement}
+use Rattle.brace_decoding.proofs.decoding.has_label.Tie as tie
 
 array-share-prefix-symbols : tie.Need-array-share-prefix-symbols
 array-share-prefix-symbols c = symbols-fit _ _ _ _ _ (c .before .before .put-symbols .ensures) (c .bytes-written .ensures)

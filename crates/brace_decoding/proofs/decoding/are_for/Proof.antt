@@ -4,9 +4,9 @@ use lib.ListN.{length}
 use borrow.Author.Needs.{needs}
 use borrow.Author.Tests.{not-true, not-false}
 use native.Mathlib.Omega.{arith}
-use Rattle.brace.proofs.Comparison.{Compared, lengths-differ, compared-start, compared-turn, compared-stop, compared-end}
-use Rattle.brace.proofs.decoding.are_for.Statement.{statement}
-use Rattle.brace.proofs.decoding.are_for.Tie as tie
+use Rattle.brace_decoding.proofs.Comparison.{Compared, lengths-differ, compared-start, compared-turn, compared-stop, compared-end}
+use Rattle.brace_decoding.proofs.decoding.are_for.Statement.{statement}
+use Rattle.brace_decoding.proofs.decoding.are_for.Tie as tie
 
 abbrev Inv-loop : tie.InvT-loop
 Inv-loop symbols bytes i₀ i = Compared symbols bytes i

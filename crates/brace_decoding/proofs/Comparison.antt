@@ -17,7 +17,8 @@ use Rattle.copying.proofs.Bytes.{spelled-length}
 use Rattle.copying.specs.Symbols.{isFor, areFor}
 use Rattle.brace_format.specs.Signature.{signature, isSigned}
 use Rattle.brace_symbols.specs.Encoding.{symbolsOf}
-use Rattle.brace.specs.Answer.{encodeOutcome, isDone}
+use Rattle.brace_symbols.specs.Answer.{encodeOutcome}
+use Rattle.brace_decoding.specs.Answer.{isDone}
 use Rattle.brace_symbols.proofs.Labels.{encoded-count}
 
 -- one symbol: a coded one by the value of the byte, a copied one by the byte

@@ -4,10 +4,10 @@ use borrow.Author.Needs.{needs}
 use Rattle.basis.proofs.Outcome.{refused-leaves}
 use Rattle.utf16.specs.Answer.{unitsOutcome}
 use Rattle.labels.proofs.FirstTests.{check-stops, label-checked}
-use Rattle.brace.specs.Answer.{decodeOutcome}
-use Rattle.brace.proofs.DecodeLaws.{label-sizes}
-use Rattle.brace.proofs.decode.Statement.{statement}
-use Rattle.brace.proofs.decode.Tie as tie
+use Rattle.brace_decoding.specs.Answer.{decodeOutcome}
+use Rattle.brace_decoding.proofs.DecodeLaws.{label-sizes}
+use Rattle.brace_decoding.proofs.decode.Statement.{statement}
+use Rattle.brace_decoding.proofs.decode.Tie as tie
 
 returns : tie.Need-returns
 unfolding unitsOutcome decodeOutcome

@@ -4,8 +4,8 @@ use lib.ListN.{length}
 use native.Mathlib.Omega.{arith}
 use borrow.Author.Needs.{needs}
 use Rattle.brace_format.proofs.Signed.{signed-short, signed-four}
-use Rattle.brace.proofs.signature.label_is_signed.Statement.{statement}
-use Rattle.brace.proofs.signature.label_is_signed.Tie as tie
+use Rattle.brace_decoding.proofs.signature.label_is_signed.Statement.{statement}
+use Rattle.brace_decoding.proofs.signature.label_is_signed.Tie as tie
 
 returns : tie.Need-returns
 returns c = signed-short _ (c .if1 .taken)

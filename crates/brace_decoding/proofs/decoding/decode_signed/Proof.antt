@@ -6,11 +6,11 @@ use native.Mathlib.Omega.{arith}
 use Rattle.basis.specs.Outcome.{done}
 use Rattle.basis.proofs.Outcome.{refused-leaves, done-leaves}
 use Rattle.utf16.specs.Answer.{unitsOutcome}
-use Rattle.brace.specs.Answer.{decodeOutcome}
-use Rattle.brace.proofs.Comparison.{signed-long}
-use Rattle.brace.proofs.DecodeLaws.{body-room, body-done, body-never, text-fits, text-is, text-count, copied-text, signed-refused, signed-done}
-use Rattle.brace.proofs.decoding.decode_signed.Statement.{statement}
-use Rattle.brace.proofs.decoding.decode_signed.Tie as tie
+use Rattle.brace_decoding.specs.Answer.{decodeOutcome}
+use Rattle.brace_decoding.proofs.Comparison.{signed-long}
+use Rattle.brace_decoding.proofs.DecodeLaws.{body-room, body-done, body-never, text-fits, text-is, text-count, copied-text, signed-refused, signed-done}
+use Rattle.brace_decoding.proofs.decoding.decode_signed.Statement.{statement}
+use Rattle.brace_decoding.proofs.decoding.decode_signed.Tie as tie
 
 sub-read-body : tie.Need-sub-read-body
 sub-read-body c = signed-long _ (c .before .before .pre .1)

@@ -4,11 +4,11 @@ use lib.ListN.{length}
 use borrow.Author.Needs.{needs}
 use Rattle.basis.proofs.Outcome.{stop-found, pass-found, stop-given, pass-given, refused-leaves, done-leaves}
 use Rattle.utf16.specs.Answer.{unitsOutcome}
-use Rattle.brace.specs.Answer.{decodeOutcome}
-use Rattle.brace.proofs.Plain.{unsigned-text}
-use Rattle.brace.proofs.DecodeLaws.{all-ldh, copied-text, plain-outcome, plain-done}
-use Rattle.brace.proofs.decoding.decode_plain.Statement.{statement}
-use Rattle.brace.proofs.decoding.decode_plain.Tie as tie
+use Rattle.brace_decoding.specs.Answer.{decodeOutcome}
+use Rattle.brace_decoding.proofs.Plain.{unsigned-text}
+use Rattle.brace_decoding.proofs.DecodeLaws.{all-ldh, copied-text, plain-outcome, plain-done}
+use Rattle.brace_decoding.proofs.decoding.decode_plain.Statement.{statement}
+use Rattle.brace_decoding.proofs.decoding.decode_plain.Tie as tie
 
 returns : tie.Need-returns
 unfolding unitsOutcome

@@ -15,7 +15,8 @@ ghost use Rattle.copying.specs.Symbols.{isFor, areFor};
 ghost use Rattle.brace_format.specs.Signature.{isSigned};
 ghost use Rattle.brace_symbols.specs.Encoding.{symbolsOf};
 ghost use Rattle.brace_text.specs.Decoding.{textOf};
-ghost use Rattle.brace.specs.Answer.{isDone, firstNotLdh, encodeOutcome, decodeOutcome};
+ghost use Rattle.brace_symbols.specs.Answer.{encodeOutcome};
+ghost use Rattle.brace_decoding.specs.Answer.{isDone, firstNotLdh, decodeOutcome};
 
 // Whether a byte is read as a symbol: a coded one in either case, a copied one byte for byte.
 fn is_for(symbol: u8, byte: u8) -> bool

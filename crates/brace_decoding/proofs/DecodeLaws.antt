@@ -21,8 +21,9 @@ use Rattle.brace_format.specs.Signature.{isSigned}
 use Rattle.brace_symbols.specs.Encoding.{symbolsOf}
 use Rattle.brace_text.specs.Decoding.{bodyText, textOf}
 use Rattle.brace_text.specs.Answer.{bodyOutcome}
-use Rattle.brace.specs.Answer.{isDone, isLawful, firstNotLdh, encodeOutcome, decodeOutcome}
-use Rattle.brace.proofs.Plain.{unsigned-text, plain-lawful}
+use Rattle.brace_symbols.specs.Answer.{encodeOutcome}
+use Rattle.brace_decoding.specs.Answer.{isDone, isLawful, firstNotLdh, decodeOutcome}
+use Rattle.brace_decoding.proofs.Plain.{unsigned-text, plain-lawful}
 
 -- what a label has that passed the first tests
 pub label-sizes : (capacity bytes : ℕ) → LabelPassed capacity bytes → (63 ≤ capacity) × (0 < bytes) × (bytes ≤ 63)

@@ -8,9 +8,9 @@ use native.Mathlib.Omega.{arith}
 use Rattle.basis.specs.Rows.{at}
 use Rattle.basis.proofs.Scan.{Passed, passed-none, passed-more, found-first, found-none}
 use Rattle.ascii.specs.Ldh.{isLdh}
-use Rattle.brace.specs.Answer.{firstNotLdh}
-use Rattle.brace.proofs.decoding.first_not_ldh.Statement.{statement}
-use Rattle.brace.proofs.decoding.first_not_ldh.Tie as tie
+use Rattle.brace_decoding.specs.Answer.{firstNotLdh}
+use Rattle.brace_decoding.proofs.decoding.first_not_ldh.Statement.{statement}
+use Rattle.brace_decoding.proofs.decoding.first_not_ldh.Tie as tie
 
 pub first-not-ldh-spec : {M : Type 1} → statement M
 unfolding firstNotLdh

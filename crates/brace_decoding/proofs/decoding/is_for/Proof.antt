@@ -1,8 +1,8 @@
 -- A quintet is compared by the value of the byte, a copied byte by itself.
 use borrow.Author.Needs.{needs}
-use Rattle.brace.proofs.Comparison.{coded-for, copied-for}
-use Rattle.brace.proofs.decoding.is_for.Statement.{statement}
-use Rattle.brace.proofs.decoding.is_for.Tie as tie
+use Rattle.brace_decoding.proofs.Comparison.{coded-for, copied-for}
+use Rattle.brace_decoding.proofs.decoding.is_for.Statement.{statement}
+use Rattle.brace_decoding.proofs.decoding.is_for.Tie as tie
 
 returns : tie.Need-returns
 returns c = coded-for _ _ (c .before .if1 .taken) _ (c .brace-value .ensures)

@@ -4,9 +4,9 @@ use lib.ListN.{length, drop}
 use borrow.Author.Needs.{needs}
 use native.Mathlib.Omega.{arith}
 use Rattle.basis.proofs.Stores.{Storing, storing-all}
-use Rattle.brace.proofs.Copying.{row-turn, row-filled}
-use Rattle.brace.proofs.decoding.copy_bytes.Statement.{statement}
-use Rattle.brace.proofs.decoding.copy_bytes.Tie as tie
+use Rattle.brace_decoding.proofs.Copying.{row-turn, row-filled}
+use Rattle.brace_decoding.proofs.decoding.copy_bytes.Statement.{statement}
+use Rattle.brace_decoding.proofs.decoding.copy_bytes.Tie as tie
 
 abbrev Inv-loop : tie.InvT-loop
 Inv-loop label units₀ i₀ units i = Storing units₀ label units i (drop i label)

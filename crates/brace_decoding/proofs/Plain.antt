@@ -21,7 +21,8 @@ use Rattle.copying.proofs.Bytes.{ldh-from, ldh-bytes}
 use Rattle.brace_format.specs.Signature.{isSigned}
 use Rattle.brace_symbols.specs.Encoding.{isPlain, symbolsOf, labelOf}
 use Rattle.brace_text.specs.Decoding.{textOf}
-use Rattle.brace.specs.Answer.{isTooLong, encodeOutcome, isDone, isLawful}
+use Rattle.brace_symbols.specs.Answer.{isTooLong, encodeOutcome}
+use Rattle.brace_decoding.specs.Answer.{isDone, isLawful}
 
 -- LDH is below 123
 ldh-to : (u : ℕ) → isLdh u ≡ true → u < 123

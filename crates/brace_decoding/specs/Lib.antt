@@ -1,0 +1,2 @@
+-- Reading BRACE: what it answers.
+pub mod Answer
