@@ -1,8 +1,9 @@
 //! The same calls of two implementations, with every element of the memory
 //! around compared.
 
-use crate::functions::{store, Function, Implementation, Numbers, TableDiff, TableWrite};
+use crate::functions::{store, Function, Implementation, Numbers, Receive, TableDiff, TableWrite};
 use crate::generate::calls::{self, Call, Row};
+use crate::generate::chunks::Chunks;
 use crate::generate::lists::List;
 use crate::generate::Source;
 use std::collections::BTreeMap;
@@ -216,6 +217,36 @@ impl Compared for TableDiff {
     }
 }
 
+/// The lengths of chunks, and the bytes that are received.
+#[derive(Clone, PartialEq)]
+struct GuardedChunks {
+    lengths: Guarded<usize>,
+    bytes: Guarded<u8>,
+}
+
+impl fmt::Display for GuardedChunks {
+    fn fmt(&self, out: &mut fmt::Formatter) -> fmt::Result {
+        write!(out, "\n    lengths{}\n    bytes  {}", self.lengths, self.bytes)
+    }
+}
+
+impl Compared for Receive {
+    type Given = Chunks;
+    type Rows = GuardedChunks;
+    type Filled = u8;
+
+    fn rows(source: &mut Source, given: &Chunks) -> GuardedChunks {
+        GuardedChunks {
+            lengths: Guarded::holding(source, &given.lengths),
+            bytes: Guarded::holding(source, &given.bytes),
+        }
+    }
+
+    fn call(self, rows: &GuardedChunks, _: &mut [u8], answer: &mut [u64]) {
+        self(rows.lengths.row(), rows.bytes.row(), answer);
+    }
+}
+
 /// The memory of a call: what is given, the buffer, the answer row.
 #[derive(Clone, PartialEq)]
 struct Memory<R, B> {
@@ -378,7 +409,7 @@ macro_rules! comparison {
 /// its sheets tell. Those that read or write 01's table, or read an entry of it, are
 /// compared again on tables and lists that hold BRACE, those of the C interface on
 /// scheme 3.
-pub const COMPARISONS: [(&str, Comparison); 27] = [
+pub const COMPARISONS: [(&str, Comparison); 28] = [
     comparison!(to_units, to_units, [1, 4]),
     comparison!(to_points, to_points, [1, 10]),
     comparison!(altdude_encode, encode, [1, 2, 3, 4, 5]),
@@ -402,6 +433,7 @@ pub const COMPARISONS: [(&str, Comparison); 27] = [
         table_diff,
         [1, 105, 106, 107, 108, 109, 113, 114, 205, 206, 207, 208, 209, 213, 214]
     ),
+    comparison!(receive, receive, [5, 6, 7, 8, 9, 13, 14]),
     comparison!(write, write, [1, 2, 3, 5, 6, 10, 11, 12]),
     comparison!(read, read, [1, 2, 3, 5, 6, 7, 8, 9, 11]),
     comparison!("table_read, BRACE", table_read, brace_table_read, [5, 6, 7, 8, 9, 13, 14]),

@@ -5,7 +5,7 @@ use crate::c_interface::{self, ERROR_BASE};
 use crate::error::Error;
 use crate::scheme::Scheme;
 use crate::utf16::{self, PointCount, UnitCount};
-use crate::{altdude, brace, lace, nametable, short_table, table_diff};
+use crate::{altdude, brace, lace, nametable, receiver, short_table, table_diff};
 
 /// Code (0 when done), position, count, and for an entry of a table reader
 /// number and scheme number.
@@ -26,8 +26,13 @@ pub type TableWrite = fn(&[u16], &[u32], &[usize], &[u32], &mut [u8], &mut [u64]
 /// and the right one, the buffer to fill, and the row of the five numbers.
 pub type TableDiff = fn([&[u8]; 2], &mut [u8], &mut [u64]);
 
+/// The function that receives a table in chunks: the lengths of the chunks, the bytes,
+/// and the row of the five numbers. A length past the end takes what is left, and bytes
+/// after the last chunk are not handed in.
+pub type Receive = fn(&[usize], &[u8], &mut [u64]);
+
 /// The functions of an implementation, and what it is called. Reading a table or
-/// its header fills no buffer.
+/// its header, and receiving a table, fill no buffer.
 #[derive(Clone, Copy)]
 pub struct Implementation {
     pub name: &'static str,
@@ -50,6 +55,7 @@ pub struct Implementation {
     pub to_short: Function<u8, u8>,
     pub to_long: Function<u8, u8>,
     pub table_diff: TableDiff,
+    pub receive: Receive,
     pub write: Function<u8, u8>,
     pub read: Function<u8, u8>,
 }
@@ -116,6 +122,7 @@ pub const INDEPENDENT: Implementation = Implementation {
     table_diff: |[left, right], sheet, answer| {
         store(numbers(table_diff::diff(left, right, sheet)), answer);
     },
+    receive: |lengths, bytes, answer| store(numbers(receiver::receive(lengths, bytes)), answer),
     write: |text, scheme, label, answer| {
         store(interface_numbers(c_interface::write(scheme as u32, text, label)), answer);
     },

@@ -17,6 +17,7 @@ pub mod papers;
 pub mod point;
 #[cfg(feature = "proved")]
 pub mod proved;
+pub mod receiver;
 pub mod scheme;
 pub mod short_table;
 pub mod table_diff;

@@ -157,6 +157,14 @@ extern "C" {
         answer: *mut u64,
         answer_len: usize,
     );
+    fn test_receive(
+        lengths: *const usize,
+        lengths_len: usize,
+        bytes: *const u8,
+        bytes_len: usize,
+        answer: *mut u64,
+        answer_len: usize,
+    );
 }
 
 // libfirmware.a, declared in include/distelhut.h
@@ -256,6 +264,7 @@ pub const PROVED: Implementation = Implementation {
     table_diff: |[left, right], sheet, answer| {
         call!(test_table_diff, [left, right], [], [sheet, answer])
     },
+    receive: |lengths, bytes, answer| call!(test_receive, [lengths, bytes], [], [answer]),
     write: |text, scheme, label, answer| {
         store(interface_numbers(write(scheme as u32, text, label)), answer);
     },

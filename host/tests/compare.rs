@@ -1,10 +1,14 @@
 //! The comparison itself, without the proved library: the independent
 //! implementation agrees with itself, and one with a planted error is found out.
 
+#[path = "shared/handed_in.rs"]
+mod handed_in;
+
 use distelhut_host::brace::{loose_text, style_of, symbols_in, Style};
 use distelhut_host::compare::COMPARISONS;
-use distelhut_host::functions::{store, Function, Implementation, TableDiff, INDEPENDENT};
+use distelhut_host::functions::{store, Function, Implementation, Receive, TableDiff, INDEPENDENT};
 use distelhut_host::point::is_ldh;
+use handed_in::handed_in;
 
 const CASES: usize = 20_000;
 
@@ -1207,6 +1211,132 @@ fn errors_of_the_lines_of_table_diff() {
             |[left, right], sheet, answer| {
                 let (left, right) = (in_small_letters(left), in_small_letters(right));
                 (INDEPENDENT.table_diff)([&left, &right], sheet, answer);
+            },
+        ],
+    );
+}
+
+/// Receives a table by reading at once what is handed in.
+fn read_at_once(lengths: &[usize], bytes: &[u8], answer: &mut [u64]) {
+    (INDEPENDENT.table_read)(handed_in(lengths, bytes), 0, &mut [], answer);
+}
+
+#[test]
+fn receiving_is_reading_at_once() {
+    let (_, compare) = COMPARISONS.iter().find(|(name, _)| *name == "receive").unwrap();
+    let reading = Implementation { name: "at once", receive: read_at_once, ..INDEPENDENT };
+    compare(200_000, 1, &[reading, INDEPENDENT]).unwrap();
+}
+
+/// A table that is whole but for its length: what is announced and not there is filled up
+/// with good entries, what follows the last entry is left out.
+fn of_announced_length(table: &[u8]) -> Vec<u8> {
+    let count = match table {
+        [0x48, high, low, ..] => u16::from_be_bytes([*high, *low]),
+        _ => return table.to_vec(),
+    };
+    let mut whole = table.to_vec();
+    for index in (whole.len() - 3) / 67..usize::from(count.min(500)) {
+        whole.truncate(3 + 67 * index);
+        whole.extend([0x41, 0xFE + (index / 256) as u8, index as u8, 1, b'a']);
+        whole.resize(3 + 67 * (index + 1), 0);
+    }
+    whole.truncate(3 + 67 * usize::from(count));
+    whole
+}
+
+#[test]
+fn errors_of_the_chunks_of_receive() {
+    found_in::<Receive>(
+        "receive",
+        |receive| Implementation { receive, ..INDEPENDENT },
+        &[
+            // all bytes are handed in
+            |_, bytes, answer| (INDEPENDENT.receive)(&[bytes.len()], bytes, answer),
+            // a chunk of no bytes ends the table
+            |lengths, bytes, answer| {
+                let end = lengths.iter().position(|&length| length == 0).unwrap_or(lengths.len());
+                (INDEPENDENT.receive)(&lengths[..end], bytes, answer);
+            },
+            // a length past the end takes nothing
+            |lengths, bytes, answer| {
+                let mut rest = bytes.len();
+                let within = |&length: &usize| {
+                    let taken = if length <= rest { length } else { 0 };
+                    rest -= taken;
+                    taken
+                };
+                let lengths: Vec<usize> = lengths.iter().map(within).collect();
+                (INDEPENDENT.receive)(&lengths, bytes, answer);
+            },
+            // the lengths are added modulo 2^64
+            |lengths, bytes, answer| {
+                let sum = lengths.iter().fold(0, |sum: usize, &length| sum.wrapping_add(length));
+                (INDEPENDENT.receive)(&[sum], bytes, answer);
+            },
+            // the first chunk makes a fresh start of its own
+            |lengths, bytes, answer| {
+                let first = lengths.first().map_or(0, |&first| first.min(bytes.len()));
+                let first = if first == bytes.len() { 0 } else { first };
+                let rest = lengths.get(1..).unwrap_or_default();
+                let lengths = if first == 0 { lengths } else { rest };
+                (INDEPENDENT.receive)(lengths, &bytes[first..], answer);
+            },
+        ],
+    );
+}
+
+#[test]
+fn errors_of_the_count_of_receive() {
+    found_in::<Receive>(
+        "receive",
+        |receive| Implementation { receive, ..INDEPENDENT },
+        &[
+            // no more than 33,503 bytes are counted
+            |lengths, bytes, answer| {
+                let bytes = handed_in(lengths, bytes);
+                let bytes = &bytes[..bytes.len().min(33_503)];
+                (INDEPENDENT.receive)(&[bytes.len()], bytes, answer);
+            },
+            // the bytes are counted in 16 bits
+            |lengths, bytes, answer| {
+                let bytes = handed_in(lengths, bytes);
+                let bytes = &bytes[..bytes.len() % 65_536];
+                (INDEPENDENT.receive)(&[bytes.len()], bytes, answer);
+            },
+            // nothing received is a table of no entries
+            |lengths, bytes, answer| {
+                (INDEPENDENT.receive)(lengths, bytes, answer);
+                if handed_in(lengths, bytes).is_empty() {
+                    store([0; 5], answer);
+                }
+            },
+        ],
+    );
+}
+
+#[test]
+fn errors_of_the_refusals_of_receive() {
+    found_in::<Receive>(
+        "receive",
+        |receive| Implementation { receive, ..INDEPENDENT },
+        &[
+            // an entry's refusal is told before the length decides
+            |lengths, bytes, answer| {
+                let mut five = [0; 5];
+                let whole = of_announced_length(handed_in(lengths, bytes));
+                (INDEPENDENT.receive)(&[whole.len()], &whole, &mut five);
+                if five[0] == 0 {
+                    (INDEPENDENT.receive)(lengths, bytes, &mut five);
+                }
+                store(five, answer);
+            },
+            // the position is that of the entry after
+            |lengths, bytes, answer| {
+                let mut five = [0; 5];
+                (INDEPENDENT.receive)(lengths, bytes, &mut five);
+                five[1] += u64::from(![0, 13, 14].contains(&five[0]));
+                store(five, answer);
             },
         ],
     );

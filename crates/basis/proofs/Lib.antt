@@ -4,6 +4,7 @@ pub mod Scan
 pub mod Lists
 pub mod Stores
 pub mod Parts
+pub mod Enums
 pub mod Outcome
 pub mod Causes
 pub mod Codec

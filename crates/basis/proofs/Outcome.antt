@@ -12,6 +12,7 @@ use Rattle.basis.specs.Outcome.{Outcome, done, refused, refusedIf, andTh
 use Rattle.basis.specs.declared.ErrorCode.{ErrorCode}
 use Rattle.basis.specs.declared.ErrorCode.the-variants.{Capacity, Empty, TooLong, NotAPoint, EdgeHyphen, HostLabel, OutsideAlphabet, NoPrefix, NotWellFormed, UnpairedSurrogate, UnknownScheme, OddByteCount, Truncated, Malformed}
 use Rattle.basis.proofs.ErrorCode.{the-type}
+use Rattle.basis.proofs.Enums.{place-tells}
 use Rattle.basis.proofs.Parts.{front-is, front-fits, front-long}
 
 -- a test in its turn, by what the code tested: it stops the function, or the function goes on to what follows
@@ -130,6 +131,12 @@ unfolding andThen
 both-done place (done m) next e = ((m, refl), e)
 both-done place (refused k p) next e = absurd (done-not-refused e refl)
 
+-- what follows is asked only if the outcome is done
+pub andThen-same : (place : ℕ → ℕ) (o : Outcome) {next other : Outcome} → ((n : ℕ) → o ≡ done n → next ≡ other) → andThen place o next ≡ andThen place o other
+unfolding andThen
+andThen-same place (done n) same = same n refl
+andThen-same place (refused number position) same = refl
+
 -- what holds of the refusal where a test holds, and of what follows where it fails, holds of the test in its turn
 pub by-test : (P : Outcome → Type 0) (test : Bool) (number position : ℕ) (next : Outcome) → (test ≡ true → P (refused number position)) → (test ≡ false → P next)
     → P (refusedIf test number position next)
@@ -159,3 +166,7 @@ number-place UnknownScheme = (refl, omega arith)
 number-place OddByteCount = (refl, omega arith)
 number-place Truncated = (refl, omega arith)
 number-place Malformed = (refl, omega arith)
+
+-- so it tells the error
+pub number-tells : (c d : ErrorCode) → numberOf c ≡ numberOf d → c ≡ d
+number-tells c d e = place-tells the-type tt c d (omega (arith, number-place c .0, number-place d .0))

@@ -63,6 +63,8 @@ use Rattle.nametable_facts.proofs.Settled.{header-alone-settled, read-settled, 
 use Rattle.nametable_facts.proofs.Truncation.{prefix-truncated}
 use Rattle.nametable_facts.proofs.Whole.{label-long, lone-entry-counts, entry-counts, judged-entry-counts}
 use Rattle.nametable_facts.proofs.ReadBack.{written-counts}
+use Rattle.nametable_receiver.specs.Receiving as receiver
+use Rattle.nametable_receiver_facts.proofs.Settled.{verdict-settled}
 use Rattle.nametable_short_format.specs.Format.{shortHeaderKind, roomOf, fewestOf, firstEntry, afterFirst, longOf}
 use Rattle.nametable_short.specs.Answer.{wholeTests, shortEntryJudged, shortEntriesJudged, shortReadOutcome, shortEntryText, shortFindOutcome, moveOutcome, toShortOutcome, toLongOutcome}
 use Rattle.nametable_short.specs.Answer as short
@@ -81,6 +83,7 @@ use Rattle.nametable_differences.specs.Report.{reportOf, reportCapacity, report
 use Rattle.claims.specs.Demand1.{isOneOf, Listed, Answers, Tells, encodeCodes, decodeCodes, tableCodes, tableWriteCodes, writeCodes, readCodes, Cut, OtherForm, Demand1}
 use Rattle.claims.proofs.Interface.{written-some, read-some}
 use Rattle.claims.proofs.Positions.{verdict-placed}
+use Rattle.claims.proofs.Receiving.{as-read-at-once}
 use Rattle.claims.proofs.Differences.{refused-left, refused-right, whole-room}
 
 -- a chain of tests: each that holds has a listed number
@@ -379,6 +382,9 @@ table-read t =
     header-listed refl refl headerKind t (length-listed refl refl (length t) (tableLength (countOf t)) (λ long.
     entries-listed 0 0 (countOf t) (drop headerLength t) (countOf t) (omega (arith, length-drop 3 t))))
 
+receiver-verdict : (chunks : List (List ℕ)) → Listed tableCodes (receiver.verdictOf (receiver.receivedAll receiver.fresh chunks))
+receiver-verdict chunks = rw (as-read-at-once chunks) (table-read (receiver.joined chunks))
+
 -- one entry
 with-one : (outcome : Outcome) → Listed tableCodes outcome → Listed (1 ∷ tableCodes) outcome
 unfolding isOneOf
@@ -659,6 +665,8 @@ demand1 = record {
     λ d. by-scheme (λ s. kindOf e ≡ naming.kindOf s → ⊥) (d .0) (d .1) (d .2),
   );
   unknownSchemes = λ number. (λ u. (u Altdude, u Lace, u Brace), λ d. by-scheme (λ s. number ≡ naming.numberOf s → ⊥) (d .0) (d .1) (d .2));
+  receiverOrder = verdict-settled;
+  receiverVerdict = receiver-verdict;
   shortRead = short-read;
   shortEntry = short-entry;
   toShort = to-short;

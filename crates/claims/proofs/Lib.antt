@@ -4,6 +4,7 @@ pub mod Interface
 pub mod Rows
 pub mod Positions
 pub mod Differences
+pub mod Receiving
 pub mod Demand1
 pub mod Demands
 pub mod Written

@@ -1,7 +1,7 @@
 -- Demand 1: what every public function answers and leaves, whatever it is given, and that a table that is cut is refused as cut. The outcomes and
 -- the values are the definitions that the contracts cite. The order of the refusals is that of their tests; by causes it is said of the
--- conversions, of Base32, of the tables and of the report on two tables here, and of the schemes and the C interface in demand 2. That a call ends and stays inside what
--- it was passed is what the checker proves of each function.
+-- conversions, of Base32, of the tables, of a receiver and of the report on two tables here, and of the schemes and the C interface in
+-- demand 2. That a call ends and stays inside what it was passed is what the checker proves of each function.
 use Prim.Native.Nat.{ℕ, _+_, _*_, _≤_, _<_}
 use mathlib.Core.Path.{_≡_}
 use mathlib.Core.Bool.{Bool, true, false, _||_}
@@ -41,6 +41,8 @@ use Rattle.nametable_format.specs.Format as nametable
 use Rattle.nametable.specs.Answer.{headerOutcome, readOutcome, findOutcome, loneEntryOutcome, judgedEntryOutcome, textIn, entryText}
 use Rattle.nametable_write.specs.Writing as writing
 use Rattle.nametable_facts.specs.Causes.{UnknownKind, UnknownScheme, headerCauses, tableCauses, findCauses, loneEntryCauses, judgedEntryCauses, writeCauses}
+use Rattle.nametable_receiver.specs.Receiving.{State, fresh, receivedAll, verdictOf}
+use Rattle.nametable_receiver_facts.specs.Causes.{verdictCauses}
 use Rattle.nametable_short.specs.Answer.{shortReadOutcome, shortFindOutcome, shortEntryText, toShortOutcome, toLongOutcome}
 use Rattle.nametable_short.specs.Answer as short
 use Rattle.nametable_short_facts.specs.Causes.{shortTableCauses, shortFindCauses, toShortCauses, toLongCauses}
@@ -221,6 +223,10 @@ pub record Demand1 : Type 0 where
       → UnknownKind entry ↔ ((nametable.kindOf entry ≡ 0x41 → ⊥) × (nametable.kindOf entry ≡ 0x4c → ⊥) × (nametable.kindOf entry ≡ 0x42 → ⊥))
   -- the number of an entry's scheme is no scheme's exactly if it is neither 1, 2 nor 3
   pub unknownSchemes : (number : ℕ) → UnknownScheme number ↔ ((number ≡ 1 → ⊥) × (number ≡ 2 → ⊥) × (number ≡ 3 → ⊥))
+  -- of a receiver, whatever state it holds: the header's, the length's, then the refusal that it holds
+  pub receiverOrder : (state : State) → Settles (verdictCauses state) (countOf (state .judged)) (verdictOf state)
+  -- from a fresh start its codes are those of a table
+  pub receiverVerdict : (chunks : List (List ℕ)) → Listed tableCodes (verdictOf (receivedAll fresh chunks))
   -- nametable_short: `read` is passed no buffer to write
   pub shortRead : (table : List ℕ) → Listed tableCodes (shortReadOutcome table)
   pub shortEntry : (table : List ℕ) (index : ℕ) (text : List ℕ)

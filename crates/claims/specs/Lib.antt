@@ -1,10 +1,11 @@
--- The demands as named statements, what writing a table and its short form promise, the table of known labels, that BRACE is as its
--- draft says, and that LACE is as short as it may be.
+-- The demands as named statements, what writing a table, its short form and receiving it in chunks promise, the table of known labels, that
+-- BRACE is as its draft says, and that LACE is as short as it may be.
 pub mod Demand1
 pub mod Demands
 pub mod Written
 pub mod ShortForm
 pub mod Differences
+pub mod Receiving
 pub mod KnownLabels
 pub mod Brace
 pub mod Shortest

@@ -21,7 +21,7 @@ use Rattle.scheme.specs.Naming as naming
 use Rattle.scheme.specs.declared.Scheme.{Scheme}
 use Rattle.nametable_format.proofs.Parts.{entry-part}
 use Rattle.nametable_format.specs.Format.{headerKind, headerLength, mostEntries, entryLength, labelCapacity, textCapacity, numberAt, countOf, tableLength, entryAt, readerOf, schemeIn}
-use Rattle.nametable.specs.Answer.{tableOutcome, headerTests, headerOutcome, lengthTests, formTests, entryJudged, entriesJudged, readOutcome, textIn, entryText, foundOutcome, findOutcome, entryRead, loneEntryOutcome, judgedEntryOutcome, found, notFound, entryOutcome, entryFrom}
+use Rattle.nametable.specs.Answer.{tableOutcome, headerTests, headerOutcome, lengthTests, formTests, entryJudged, entriesJudged, sizeTests, readOutcome, textIn, entryText, foundOutcome, findOutcome, entryRead, loneEntryOutcome, judgedEntryOutcome, found, notFound, entryOutcome, entryFrom}
 use Rattle.nametable.specs.declared.TableAnswer.{TableAnswer}
 use Rattle.nametable.specs.declared.TableAnswer.the-variants as table
 use Rattle.nametable.specs.declared.EntryAnswer.{EntryAnswer}
@@ -105,24 +105,32 @@ module _ (kind : ℕ) (t : List ℕ) (announced : TableAnswer) (judged : tableOu
       let answers = sym judged ∙ ap tableOutcome is in
       (header-done kind t (done (countOf t)) answers .0, header-counts kind t answers)
 
--- the tests on a table with a lawful header
-module _ (t : List ℕ) (kind : at t 0 ≡ headerKind) (header : headerLength ≤ length t) {n : ℕ} (is : n ≡ countOf t) where
-  module _ (some : 1 ≤ n) (few : n ≤ mostEntries) where
-    by-length : readOutcome t ≡ lengthTests (length t) (tableLength n) (entriesJudged 0 0 n (drop headerLength t) n)
-    unfolding readOutcome
-    by-length = header-passed headerKind t _ kind header is some few ∙ rw is
+-- the tests on the length, after a lawful header that announces n entries
+module _ (h : List ℕ) (kind : at h 0 ≡ headerKind) (header : headerLength ≤ length h) {n : ℕ} (is : n ≡ countOf h) (some : 1 ≤ n) (few : n ≤ mostEntries) where
+  module _ (bytes : ℕ) (next : Outcome) where
+    by-length : sizeTests h bytes next ≡ lengthTests bytes (tableLength n) next
+    by-length = header-passed headerKind h _ kind header is some few ∙ rw is
 
-    pub cut-table : length t < tableLength n → readOutcome t ≡ refused 13 0
-    unfolding lengthTests refusedIf
-    cut-table h = by-length ∙ rw (lt-ltb (length t) (tableLength n) h)
-
-    pub long-table : tableLength n < length t → readOutcome t ≡ refused 14 0
+    pub size-cut : bytes < tableLength n → sizeTests h bytes next ≡ refused 13 0
     unfolding lengthTests
-    long-table h = by-length ∙ pass-below 13 0 _ (length t) (tableLength n) (omega arith) ∙ stop-below 14 0 _ _ _ h
+    size-cut b = by-length ∙ stop-below 13 0 _ bytes (tableLength n) b
 
-    pub by-entries : length t ≡ tableLength n → readOutcome t ≡ entriesJudged 0 0 n (drop headerLength t) n
+    pub size-over : tableLength n < bytes → sizeTests h bytes next ≡ refused 14 0
     unfolding lengthTests
-    by-entries h = by-length ∙ pass-below 13 0 _ (length t) (tableLength n) (omega arith) ∙ pass-below 14 0 _ (tableLength n) (length t) (omega arith)
+    size-over b = by-length ∙ pass-below 13 0 _ bytes (tableLength n) (omega arith) ∙ stop-below 14 0 _ (tableLength n) bytes b
+
+    pub size-right : bytes ≡ tableLength n → sizeTests h bytes next ≡ next
+    unfolding lengthTests
+    size-right b = by-length ∙ pass-below 13 0 _ bytes (tableLength n) (omega arith) ∙ pass-below 14 0 _ (tableLength n) bytes (omega arith)
+
+  -- the same of a whole table
+  pub cut-table : length h < tableLength n → readOutcome h ≡ refused 13 0
+  unfolding readOutcome
+  cut-table b = size-cut (length h) _ b
+
+  pub by-entries : length h ≡ tableLength n → readOutcome h ≡ entriesJudged 0 0 n (drop headerLength h) n
+  unfolding readOutcome
+  by-entries b = size-right (length h) _ b ∙ rw is
 
 -- the answer with an error
 pub table-answers : (outcome : Outcome) (code : ErrorCode) (r : TableAnswer) → r ≡ table.Error code 0 → outcome ≡ refused (numberOf code) 0

@@ -63,13 +63,14 @@ entriesJudged index least (suc left) bytes total =
     andThen (λ _. index) (entryJudged 1 labelCapacity least (take entryLength bytes))
     (entriesJudged (suc index) (suc (readerOf bytes)) left (drop entryLength bytes) total)
 
--- reading a table: the header, the length that its count asks, then entry by entry; it answers the
--- number of entries
+-- the header of a table of so many bytes, by those of its bytes that are there; the length that its
+-- count asks; then what follows
+abbrev pub sizeTests : (header : List ℕ) (bytes : ℕ) → Outcome → Outcome
+sizeTests header bytes next = headerTests headerKind header (lengthTests bytes (tableLength (countOf header)) next)
+
+-- reading a table: the header and the length, then entry by entry; it answers the number of entries
 unfoldable pub readOutcome : List ℕ → Outcome
-readOutcome t =
-    headerTests headerKind t
-    (lengthTests (length t) (tableLength (countOf t))
-    (entriesJudged 0 0 (countOf t) (drop headerLength t) (countOf t)))
+readOutcome t = sizeTests t (length t) (entriesJudged 0 0 (countOf t) (drop headerLength t) (countOf t))
 
 -- the text of an entry
 unfoldable pub textIn : List ℕ → List ℕ

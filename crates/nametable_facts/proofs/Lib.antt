@@ -1,5 +1,6 @@
 -- Theorems on the name table's definitions.
 pub mod Settled
+pub mod SizeLaws
 pub mod Truncation
 pub mod Whole
 pub mod JudgedEntry

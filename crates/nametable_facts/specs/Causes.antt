@@ -50,9 +50,14 @@ headerCauses kind t later =
 abbrev pub lengthCauses : (bytes needed : ℕ) → List Cause → List Cause
 lengthCauses bytes needed later = whole 13 (bytes < needed) ∷ whole 14 (needed < bytes) ∷ later
 
--- against reading a table: the header, the length that its count asks, then entry by entry
+-- against the header of a table of so many bytes, and the length that its count asks; then the later
+-- ones
+abbrev pub sizeCauses : (header : List ℕ) (bytes : ℕ) → List Cause → List Cause
+sizeCauses header bytes later = headerCauses headerKind header (lengthCauses bytes (tableLength (countOf header)) later)
+
+-- against reading a table: the header and the length, then entry by entry
 abbrev pub tableCauses : List ℕ → List Cause
-tableCauses t = headerCauses headerKind t (lengthCauses (length t) (tableLength (countOf t)) (entriesCauses 0 0 (countOf t) (drop headerLength t)))
+tableCauses t = sizeCauses t (length t) (entriesCauses 0 0 (countOf t) (drop headerLength t))
 
 -- against one entry by index of a table of so many entries, against which these causes are: 1, the
 -- table's own, then an index not below the number of entries

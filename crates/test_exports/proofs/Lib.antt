@@ -1,2 +1,4 @@
--- Laws on the row of an answer.
+-- Laws on the row of an answer, on a receiver that is lent, and on bytes in chunks.
 pub mod Row
+pub mod Lent
+pub mod ChunkLaws

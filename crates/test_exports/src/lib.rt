@@ -1,7 +1,8 @@
-// The converter, the schemes, the name table in both forms and the difference report, exported to C
-// for tests alone. In `answer` each stores five numbers, if it has five elements or more: code (0 when done), position,
+// The converter, the schemes, the name table in both forms, the receiver and the difference report,
+// exported to C for tests alone. In `answer` each stores five numbers, if it has five elements or more: code (0 when done), position,
 // count, and for an entry of a table reader number and scheme number.
 mod answers;
+mod receiving;
 
 use utf16::PointCount;
 use utf16::UnitCount;
@@ -22,10 +23,12 @@ ghost use Rattle.brace_text.specs.Decoding.{textOf as braceTextOf};
 ghost use Rattle.brace.specs.Answer.{encodeOutcome as braceEncodeOutcome, decodeOutcome as braceDecodeOutcome};
 ghost use Rattle.nametable_format.specs.Format.{entryAt};
 ghost use Rattle.nametable.specs.Answer.{headerOutcome, readOutcome, findOutcome, textIn, loneEntryOutcome, judgedEntryOutcome, entryFrom, entryText};
+ghost use Rattle.nametable_receiver.specs.Receiving.{fresh, receivedAll, verdictOf};
 ghost use Rattle.nametable_write.specs.Writing.{entriesOf, writeOutcome, tableOf};
 ghost use Rattle.nametable_short_format.specs.Format.{shortEntryAt, longOf};
 ghost use Rattle.nametable_short.specs.Answer.{shortReadOutcome, shortEntryText, shortFindOutcome, toShort, toLong, toShortOutcome, toLongOutcome};
 ghost use Rattle.nametable_differences.specs.Report.{reportOf, reportOutcome};
+ghost use Rattle.test_exports.specs.Chunks.{chunksOf};
 ghost use Rattle.test_exports.specs.Answer.{numbersOf, entryNumbersOf, answerAfter};
 
 // Exports `utf16::to_units`.
@@ -111,6 +114,16 @@ pub extern "C" fn test_table_read(table: &[u8], answer: &mut [u64])
     ensures { λ _. ⌜ now (answer .exit) ≡ answerAfter (numbersOf (readOutcome (now (table .entry)))) (now (answer .entry)) ⌝ }
 {
     answers::store_table(nametable::read(table), answer);
+}
+
+// Exports `nametable_receiver`: a receiver that was used is started again, takes the bytes in chunks of
+// these lengths and is asked. A length past the end takes what is left; after the fresh start no byte
+// past the last chunk is handed in.
+#[no_mangle]
+pub extern "C" fn test_receive(lengths: &[usize], bytes: &[u8], answer: &mut [u64])
+    ensures { λ _. ⌜ now (answer .exit) ≡ answerAfter (numbersOf (verdictOf (receivedAll fresh (chunksOf (now (lengths .entry)) (now (bytes .entry)))))) (now (answer .entry)) ⌝ }
+{
+    answers::store_table(receiving::in_chunks(lengths, bytes), answer);
 }
 
 // Exports `nametable::entry`.

@@ -1,6 +1,7 @@
 //! Times the exported functions beside the independent ones, and the programs.
 //! Not a test: no figure decides anything.
 
+use distelhut_host::functions::{Implementation, INDEPENDENT};
 use distelhut_host::generate::labels::lawful;
 use distelhut_host::generate::Source;
 use distelhut_host::papers::{table_of, KANA};
@@ -18,6 +19,9 @@ const CALLS: u32 = 200;
 
 /// How many runs of calls a figure is the median of.
 const CALL_RUNS: usize = 1001;
+
+/// How many runs of a table, read or received, a figure is the median of.
+const TABLE_RUNS: usize = 101;
 
 /// How many runs of a program a figure is the median of.
 const PROGRAM_RUNS: usize = 15;
@@ -106,6 +110,43 @@ fn long_table() -> Vec<u8> {
     table_of(&(1..=ENTRIES).map(&mut entry).collect::<Vec<_>>())
 }
 
+/// The time of a call on a table, which must be done and answer its number of entries.
+fn table_run(call: impl FnOnce(&mut [u64])) -> Duration {
+    let mut answer = [0; 5];
+    let start = Instant::now();
+    call(&mut answer);
+    let time = start.elapsed();
+    assert_eq!(answer, [0, 0, ENTRIES.into(), 0, 0], "the table is in order");
+    time
+}
+
+/// Prints the nanoseconds of a call for each byte of a table, exported and independent,
+/// run by turns.
+fn print_table(about: &str, bytes: usize, call: impl Fn(&Implementation, &mut [u64])) {
+    let mut times = [Vec::new(), Vec::new()];
+    for _ in 0..TABLE_RUNS {
+        for (one, times) in [proved::PROVED, INDEPENDENT].iter().zip(&mut times) {
+            times.push(table_run(|answer| call(one, answer)));
+        }
+    }
+    let [exported, independent] = times.map(|times| median(times).as_nanos() as f64 / bytes as f64);
+    println!("| {about} | {bytes} | {exported:.1} | {independent:.1} |");
+}
+
+/// Prints what reading a table at once takes, and receiving it in chunks.
+fn print_tables(table: &[u8]) {
+    let bytes = table.len();
+    print_table("read at once", bytes, |one, answer| {
+        (one.table_read)(black_box(table), 0, &mut [], answer);
+    });
+    for (about, step) in [("in one chunk", bytes), ("in chunks of 67", 67), ("in chunks of 1", 1)] {
+        let lengths = vec![step; bytes.div_ceil(step)];
+        print_table(&format!("received {about}"), bytes, |one, answer| {
+            (one.receive)(black_box(&lengths), black_box(table), answer);
+        });
+    }
+}
+
 /// Lines with a lawful LACE label each.
 fn label_lines() -> Vec<u8> {
     let mut source = Source::new(1);
@@ -170,7 +211,7 @@ fn input_file(name: &str) -> PathBuf {
     std::env::temp_dir().join(format!("distelhut-{name}-{}", std::process::id()))
 }
 
-/// Prints both tables.
+/// Prints the three tables.
 fn print() -> io::Result<()> {
     println!("Medians of {CALL_RUNS} runs of {CALLS} calls, buffers not cleared between calls.\n");
     println!("| call | text bytes | label bytes | exported, ns | independent, ns |");
@@ -179,6 +220,10 @@ fn print() -> io::Result<()> {
         print_calls("write", &name, &name.text, 63, [proved::write, c_interface::write]);
         print_calls("read", &name, &name.label, 252, [proved::read, c_interface::read]);
     }
+    println!("\nMedians of {TABLE_RUNS} calls on a name table.\n");
+    println!("| call | table bytes | exported, ns a byte | independent, ns a byte |");
+    println!("|---|---|---|---|");
+    print_tables(&long_table());
     println!(
         "\nMedians of {PROGRAM_RUNS} runs, from a program's start to its end, output dropped.\n"
     );

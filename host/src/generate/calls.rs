@@ -2,6 +2,7 @@
 //! numbers and not the implementation's constants, so that a wrong constant is
 //! not shared.
 
+use super::chunks::{self, Chunks};
 use super::lists::{self, List};
 use super::{labels, pairs, short_tables, tables, texts, Source};
 use crate::scheme::Scheme;
@@ -269,6 +270,12 @@ pub fn table_diff(source: &mut Source) -> Call<[Vec<u8>; 2]> {
     let given = pairs::pair(source);
     let capacity = capacity_around(source, 16_546);
     Call { given, capacity, answer: answer_length(source) }
+}
+
+/// Receiving a table in chunks, which fills no buffer.
+pub fn receive(source: &mut Source) -> Call<Chunks> {
+    let given = chunks::chunks(source);
+    Call { given, capacity: 0, answer: answer_length(source) }
 }
 
 /// The scheme of a number; LACE's labels and texts are made for an unknown one.

@@ -1,6 +1,7 @@
 //! A small deterministic generator of interesting inputs.
 
 pub mod calls;
+pub mod chunks;
 pub mod labels;
 pub mod lists;
 pub mod pairs;

@@ -1,0 +1,2 @@
+-- Laws on the steps of a receiver.
+pub mod StepLaws

@@ -1,0 +1,2 @@
+-- The causes of refusal of a receiver.
+pub mod Causes

@@ -1,0 +1,8 @@
+-- What a private step of the exports answers; no public promise cites it.
+use Prim.Native.Nat.{ℕ, _+_, _-_}
+use lib.Dec.{ltb}
+use Rattle.basis.specs.Tests.{pick}
+
+-- where the chunk of this length ends that begins at the start of so many bytes
+unfoldable pub endOf : (start length total : ℕ) → ℕ
+endOf start length total = pick (ltb length (total - start)) (start + length) total
