@@ -89,8 +89,8 @@ fn long_kind(number: u8) -> u8
     }
 }
 
-// The number of the scheme of long entries of this kind; LACE's for a kind that names none, which is
-// refused before.
+// The number of the scheme of long entries of this kind; LACE's for a kind that names none, which no
+// table that is moved has.
 fn scheme_number(kind: u8) -> u8
     ensures { λ r. ⌜ r ≡ numberOf (schemeNamed (kindNames kind)) ⌝ }
 {
