@@ -1,4 +1,4 @@
-//! The functions that are compared, all in one shape: what the proved library
+//! The functions that are compared, all but three in one shape: what the proved library
 //! exports for tests, and the two functions of the C interface.
 
 use crate::c_interface::{self, ERROR_BASE};

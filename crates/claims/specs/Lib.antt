@@ -1,5 +1,5 @@
--- The demands as named statements, what writing a table, its short form and receiving it in chunks promise, the table of known labels, that
--- BRACE is as its draft says, and that LACE is as short as it may be.
+-- The demands as named statements; what writing a table, its short form, receiving it in chunks and the difference report promise; the
+-- known labels; that BRACE is as its draft says; that LACE is as short as it may be.
 pub mod Demand1
 pub mod Demands
 pub mod Written

@@ -1,5 +1,5 @@
-// The receiver of a name table that arrives in chunks: a state that the caller holds, changed in place
-// by each chunk. It answers when the table is over.
+// The receiver of a name table that arrives in chunks: a state that the caller holds, changed in
+// place by each chunk. Asked when the table is over, it answers as reading the table at once.
 mod steps;
 
 use basis::ErrorCode;

@@ -25,7 +25,7 @@ pub(crate) fn announced(header: &[u8], came: usize) -> TableAnswer
     nametable::header(HEADER_KIND, header)
 }
 
-// The verdict on the entries with one more, the one at an index; a refusal stays.
+// The verdict on the entries so far and on the next, which is at this index; an earlier refusal stays.
 fn judged_with(
     earlier: TableAnswer,
     least: usize,

@@ -116,9 +116,8 @@ pub extern "C" fn test_table_read(table: &[u8], answer: &mut [u64])
     answers::store_table(nametable::read(table), answer);
 }
 
-// Exports `nametable_receiver`: a receiver that was used is started again, takes the bytes in chunks of
-// these lengths and is asked. A length past the end takes what is left; after the fresh start no byte
-// past the last chunk is handed in.
+// Exports `nametable_receiver`: a used receiver is restarted, takes chunks of these lengths, and is
+// asked. A length past the end takes what is left; bytes after the last chunk are not taken.
 #[no_mangle]
 pub extern "C" fn test_receive(lengths: &[usize], bytes: &[u8], answer: &mut [u64])
     ensures { λ _. ⌜ now (answer .exit) ≡ answerAfter (numbersOf (verdictOf (receivedAll fresh (chunksOf (now (lengths .entry)) (now (bytes .entry)))))) (now (answer .entry)) ⌝ }

@@ -1,4 +1,4 @@
-// A receiver in a variable, lent to each function of it, and a table handed in in chunks.
+// A receiver in a local variable, passed to each of its functions by reference, and a table in chunks.
 use nametable::TableAnswer;
 use nametable_format::ENTRY_LENGTH;
 use nametable_format::HEADER_LENGTH;
@@ -37,7 +37,7 @@ fn ask(state: Receiver) -> TableAnswer
     nametable_receiver::finish(&state)
 }
 
-// Where the chunk of this length ends that begins at the start: at the end of the bytes, if it is past that.
+// Where a chunk of this length ends that begins at the start, or the end of the bytes if that is first.
 fn end_of(start: usize, length: usize, total: usize) -> usize
     requires { ⌜ start ≤ total ⌝ }
     ensures { λ r. ⌜ (r ≡ endOf start length total) × (start ≤ r) × (r ≤ total) ⌝ }
