@@ -1,5 +1,5 @@
--- What a receiver holds, what a byte, a chunk and a row of chunks make of it, and its verdict when the
--- table is over.
+-- What a receiver holds, what a byte, a chunk and a row of chunks make of it, and its verdict when
+-- the table is over.
 use Prim.Native.Nat.{ℕ, suc, _-_, _/_}
 use mathlib.Core.List.{List, [], _∷_, _++_}
 use lib.Dec.{ltb}
@@ -20,8 +20,8 @@ abbrev pub lastIndex : ℕ
 lastIndex = entryLength - 1
 
 -- the state in numbers: the bytes of the header, those of the entry that is being received and how
--- many of them have come, how many bytes have come in all (33,504 at most), the least reader number
--- that this entry may have, and the verdict on the entries before it
+-- many of them have come, how many bytes have come in all, counted up to 33,504, the least reader
+-- number that this entry may have, and the verdict on the entries before it
 pub record State : Type 0 where
   pub header : List ℕ
   pub current : List ℕ
@@ -66,8 +66,8 @@ withEntry s e = record {
 unfoldable pub ended : State → ℕ → State
 ended s b = withEntry s (set (s .current) lastIndex b)
 
--- the state after a byte: past the most bytes it is as before; else the byte is one of the header, or
--- of an entry
+-- the state after a byte: as before, once the most bytes have come; else the byte is one of the header
+-- or of an entry
 unfoldable pub stepped : State → ℕ → State
 stepped s b =
     pick (ltb (s .total) mostBytes)

@@ -11,8 +11,8 @@ ghost use Rattle.nametable.specs.Answer.{tableOutcome};
 ghost use Rattle.nametable_receiver.specs.Receiving.{stateOf, fresh, received, verdictOf};
 
 // The bytes of the header, those of the entry that is being received and how many of them have come,
-// how many bytes have come in all (33,504 at most), the least reader number that this entry may have,
-// and the verdict on the entries before it: how many, or the first refusal.
+// how many bytes have come in all, counted up to 33,504, the least reader number that this entry may
+// have, and the verdict on the entries before it: how many, or the first refusal.
 pub struct Receiver {
     pub header: [u8; HEADER_LENGTH],
     pub current: [u8; ENTRY_LENGTH],
