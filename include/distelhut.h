@@ -35,6 +35,10 @@ extern "C" {
 #define DISTELHUT_ERR_UNPAIRED_SURROGATE 1010u /* a UTF-16 surrogate of the text has no partner */
 #define DISTELHUT_ERR_UNKNOWN_SCHEME 1011u     /* the scheme number is none of 0 to 3 */
 #define DISTELHUT_ERR_ODD_BYTE_COUNT 1012u     /* the text has an odd number of bytes */
+/*
+ * The numbers that neither function answers: 4 (a number that is no point), 13 and 14 (a book that is cut or badly formed) and
+ * 15 (the marks of a text do not fit it) are refusals of the library's other functions.
+ */
 
 /*
  * A worked comparison. U+00FC is written under LACE, and each kind of answer is told from the others (use, use_as_it_is and

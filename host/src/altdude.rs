@@ -1,6 +1,7 @@
 //! AltDUDE (source document 003): encoding a text, and decoding a label.
 
 use crate::error::{error, error_at, Error, ErrorCode};
+use crate::marks;
 use crate::point::{first_not_point, is_point, value_in, HYPHEN, LABEL_MAX};
 
 /// The characters for 0 to 31.
@@ -57,6 +58,37 @@ pub fn decode(label: &[u8], out: &mut [u32]) -> Result<usize, Error> {
             Ok(text.len())
         }
     }
+}
+
+/// Encodes a text with its marks: the last character of a group is a capital exactly when
+/// its point is marked. A hyphen can't be marked. Order: 1, 2, 4, 15, 5, 3.
+pub fn encode_marked(text: &[u32], marks: &[u8], out: &mut [u8]) -> Result<usize, Error> {
+    marks::judge(text, marks, out.len(), |point| point != HYPHEN)?;
+    let count = encode(text, out)?;
+    for (item, &mark) in out[..count].split_inclusive_mut(ends_item).zip(marks) {
+        if let (1, Some(last)) = (mark, item.last_mut()) {
+            last.make_ascii_uppercase();
+        }
+    }
+    Ok(count)
+}
+
+/// Decodes a label to a text and its marks. Order: 1 for either buffer, 2, 3, 7, 5, 9.
+pub fn decode_marked(label: &[u8], out: &mut [u32], marks: &mut [u8]) -> Result<usize, Error> {
+    if marks.len() < LABEL_MAX {
+        return error(ErrorCode::Capacity);
+    }
+    let count = decode(label, out)?;
+    for (item, mark) in label.split_inclusive(ends_item).zip(marks) {
+        *mark = u8::from(item.last().is_some_and(u8::is_ascii_uppercase));
+    }
+    Ok(count)
+}
+
+/// Whether a byte of a label that is accepted is the last of its item: a hyphen, or a
+/// character for 0 to 15. Each item stands for one point.
+fn ends_item(byte: &u8) -> bool {
+    *byte == b'-' || value_in(CHARACTERS, *byte).is_some_and(|value| value < 16)
 }
 
 /// The label of a text, of whatever length.

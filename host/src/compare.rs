@@ -1,10 +1,14 @@
 //! The same calls of two implementations, with every element of the memory
 //! around compared.
 
-use crate::functions::{store, Function, Implementation, Numbers, Receive, TableDiff, TableWrite};
+use crate::functions::{
+    store, DecodeMarked, EncodeMarked, Function, Implementation, Numbers, Receive, TableDiff,
+    TableWrite,
+};
 use crate::generate::calls::{self, Call, Row};
 use crate::generate::chunks::Chunks;
 use crate::generate::lists::List;
+use crate::generate::marks::MarkedText;
 use crate::generate::Source;
 use std::collections::BTreeMap;
 use std::fmt;
@@ -77,6 +81,11 @@ impl<T: Element> Guarded<T> {
         let end = self.elements.len() - GUARD;
         &mut self.elements[GUARD..end]
     }
+
+    /// The first so many elements of the row; all of them if there are fewer.
+    fn front(&self, count: usize) -> &[T] {
+        &self.row()[..count.min(self.row().len())]
+    }
 }
 
 impl<T: Element> fmt::Display for Guarded<T> {
@@ -86,23 +95,48 @@ impl<T: Element> fmt::Display for Guarded<T> {
     }
 }
 
-/// A function that is compared: what is given to it, the memory of that, and
-/// how it is called.
+/// What a function fills: a buffer, or two.
+trait Filled: Clone + PartialEq + fmt::Display {
+    /// The length of the buffer, or of each of the two.
+    type Capacity: Copy;
+
+    /// Buffers before a call: they and their guards are filled by the generator.
+    fn before(source: &mut Source, capacity: Self::Capacity) -> Self;
+
+    /// Takes the first so many elements of each buffer from another memory.
+    fn take(&mut self, count: usize, from: &Self);
+}
+
+impl<T: Element> Filled for Guarded<T> {
+    type Capacity = usize;
+
+    fn before(source: &mut Source, capacity: usize) -> Guarded<T> {
+        Guarded::filled(source, capacity)
+    }
+
+    fn take(&mut self, count: usize, from: &Guarded<T>) {
+        let front = from.front(count);
+        self.row_mut()[..front.len()].copy_from_slice(front);
+    }
+}
+
+/// A function that is compared: what is given to it, the memory of that and of what it
+/// fills, and how it is called.
 trait Compared: Copy {
     /// What the generator makes.
     type Given;
     /// The same, each row with its guards.
     type Rows: Clone + PartialEq + fmt::Display;
-    /// What the buffer is made of.
-    type Filled: Element;
+    /// What is filled.
+    type Filled: Filled;
 
     fn rows(source: &mut Source, given: &Self::Given) -> Self::Rows;
 
-    fn call(self, rows: &Self::Rows, buffer: &mut [Self::Filled], answer: &mut [u64]);
+    fn call(self, rows: &Self::Rows, filled: &mut Self::Filled, answer: &mut [u64]);
 
-    /// The code under which a call is counted that stored these numbers and wrote these
-    /// elements: 0 if it was done.
-    fn code(numbers: Numbers, _written: &[Self::Filled]) -> u64 {
+    /// The code under which a call is counted that stored these numbers and left this in
+    /// the buffer: 0 if it was done.
+    fn code(numbers: Numbers, _filled: &Self::Filled) -> u64 {
         numbers[0]
     }
 }
@@ -112,6 +146,12 @@ trait Compared: Copy {
 struct GuardedRow<G, N> {
     row: Guarded<G>,
     number: N,
+}
+
+impl<G: Element, N: Copy> GuardedRow<G, N> {
+    fn holding(source: &mut Source, given: &Row<G, N>) -> GuardedRow<G, N> {
+        GuardedRow { row: Guarded::holding(source, &given.elements), number: given.number }
+    }
 }
 
 impl<G: Element, N: fmt::Debug> fmt::Display for GuardedRow<G, N> {
@@ -128,14 +168,74 @@ where
 {
     type Given = Row<G, N>;
     type Rows = GuardedRow<G, N>;
-    type Filled = B;
+    type Filled = Guarded<B>;
 
     fn rows(source: &mut Source, given: &Row<G, N>) -> GuardedRow<G, N> {
-        GuardedRow { row: Guarded::holding(source, &given.elements), number: given.number }
+        GuardedRow::holding(source, given)
     }
 
-    fn call(self, rows: &GuardedRow<G, N>, buffer: &mut [B], answer: &mut [u64]) {
-        self(rows.row.row(), rows.number, buffer, answer);
+    fn call(self, rows: &GuardedRow<G, N>, buffer: &mut Guarded<B>, answer: &mut [u64]) {
+        self(rows.row.row(), rows.number, buffer.row_mut(), answer);
+    }
+}
+
+/// A text and its marks, given or filled.
+#[derive(Clone, PartialEq)]
+struct GuardedMarkedText {
+    text: Guarded<u32>,
+    marks: Guarded<u8>,
+}
+
+impl fmt::Display for GuardedMarkedText {
+    fn fmt(&self, out: &mut fmt::Formatter) -> fmt::Result {
+        write!(out, "\n    text  {}\n    marks {}", self.text, self.marks)
+    }
+}
+
+impl Filled for GuardedMarkedText {
+    type Capacity = [usize; 2];
+
+    fn before(source: &mut Source, [text, marks]: [usize; 2]) -> GuardedMarkedText {
+        GuardedMarkedText {
+            text: Guarded::filled(source, text),
+            marks: Guarded::filled(source, marks),
+        }
+    }
+
+    fn take(&mut self, count: usize, from: &GuardedMarkedText) {
+        self.text.take(count, &from.text);
+        self.marks.take(count, &from.marks);
+    }
+}
+
+impl Compared for EncodeMarked {
+    type Given = MarkedText;
+    type Rows = GuardedMarkedText;
+    type Filled = Guarded<u8>;
+
+    fn rows(source: &mut Source, given: &MarkedText) -> GuardedMarkedText {
+        GuardedMarkedText {
+            text: Guarded::holding(source, &given.text),
+            marks: Guarded::holding(source, &given.marks),
+        }
+    }
+
+    fn call(self, rows: &GuardedMarkedText, buffer: &mut Guarded<u8>, answer: &mut [u64]) {
+        self((rows.text.row(), rows.marks.row()), buffer.row_mut(), answer);
+    }
+}
+
+impl Compared for DecodeMarked {
+    type Given = Row<u8>;
+    type Rows = GuardedRow<u8, usize>;
+    type Filled = GuardedMarkedText;
+
+    fn rows(source: &mut Source, given: &Row<u8>) -> GuardedRow<u8, usize> {
+        GuardedRow::holding(source, given)
+    }
+
+    fn call(self, rows: &Self::Rows, filled: &mut GuardedMarkedText, answer: &mut [u64]) {
+        self(rows.row.row(), (filled.text.row_mut(), filled.marks.row_mut()), answer);
     }
 }
 
@@ -158,7 +258,7 @@ impl fmt::Display for GuardedList {
 impl Compared for TableWrite {
     type Given = List;
     type Rows = GuardedList;
-    type Filled = u8;
+    type Filled = Guarded<u8>;
 
     fn rows(source: &mut Source, given: &List) -> GuardedList {
         GuardedList {
@@ -169,8 +269,9 @@ impl Compared for TableWrite {
         }
     }
 
-    fn call(self, rows: &GuardedList, buffer: &mut [u8], answer: &mut [u64]) {
+    fn call(self, rows: &GuardedList, buffer: &mut Guarded<u8>, answer: &mut [u64]) {
         let GuardedList { readers, schemes, lengths, points } = rows;
+        let buffer = buffer.row_mut();
         self(readers.row(), schemes.row(), lengths.row(), points.row(), buffer, answer);
     }
 }
@@ -191,7 +292,7 @@ impl fmt::Display for GuardedTables {
 impl Compared for TableDiff {
     type Given = [Vec<u8>; 2];
     type Rows = GuardedTables;
-    type Filled = u8;
+    type Filled = Guarded<u8>;
 
     fn rows(source: &mut Source, [left, right]: &[Vec<u8>; 2]) -> GuardedTables {
         GuardedTables {
@@ -200,14 +301,14 @@ impl Compared for TableDiff {
         }
     }
 
-    fn call(self, rows: &GuardedTables, buffer: &mut [u8], answer: &mut [u64]) {
-        self([rows.left.row(), rows.right.row()], buffer, answer);
+    fn call(self, rows: &GuardedTables, buffer: &mut Guarded<u8>, answer: &mut [u64]) {
+        self([rows.left.row(), rows.right.row()], buffer.row_mut(), answer);
     }
 
     /// A sheet that refuses a table is counted under the code that it tells, and 100
     /// more if it is the left table's, 200 more if it is the right one's.
-    fn code(numbers: Numbers, sheet: &[u8]) -> u64 {
-        let sheet = String::from_utf8_lossy(sheet);
+    fn code(numbers: Numbers, buffer: &Guarded<u8>) -> u64 {
+        let sheet = String::from_utf8_lossy(buffer.front(numbers[2] as usize));
         let told = |code: &str| code.parse::<u64>().unwrap_or(0);
         match sheet.splitn(4, ' ').collect::<Vec<_>>()[..] {
             ["left", "refused", code, _] => 100 + told(code),
@@ -233,7 +334,7 @@ impl fmt::Display for GuardedChunks {
 impl Compared for Receive {
     type Given = Chunks;
     type Rows = GuardedChunks;
-    type Filled = u8;
+    type Filled = Guarded<u8>;
 
     fn rows(source: &mut Source, given: &Chunks) -> GuardedChunks {
         GuardedChunks {
@@ -242,60 +343,63 @@ impl Compared for Receive {
         }
     }
 
-    fn call(self, rows: &GuardedChunks, _: &mut [u8], answer: &mut [u64]) {
+    fn call(self, rows: &GuardedChunks, _: &mut Guarded<u8>, answer: &mut [u64]) {
         self(rows.lengths.row(), rows.bytes.row(), answer);
     }
 }
 
-/// The memory of a call: what is given, the buffer, the answer row.
+/// The memory of a call: what is given, what is filled, the answer row.
 #[derive(Clone, PartialEq)]
 struct Memory<R, B> {
     given: R,
-    buffer: Guarded<B>,
+    filled: B,
     answer: Guarded<u64>,
 }
 
-impl<R, B: Element> Memory<R, B> {
+impl<R, B: Filled> Memory<R, B> {
     /// The memory before a call.
-    fn before<F>(source: &mut Source, call: &Call<F::Given>) -> Memory<R, B>
+    fn before<F>(source: &mut Source, call: &Call<F::Given, B::Capacity>) -> Memory<R, B>
     where
         F: Compared<Rows = R, Filled = B>,
     {
         Memory {
             given: F::rows(source, &call.given),
-            buffer: Guarded::filled(source, call.capacity),
+            filled: B::before(source, call.capacity),
             answer: Guarded::filled(source, call.answer),
         }
     }
 
     /// Makes a call.
     fn call(&mut self, function: impl Compared<Rows = R, Filled = B>) {
-        function.call(&self.given, self.buffer.row_mut(), self.answer.row_mut());
+        function.call(&self.given, &mut self.filled, self.answer.row_mut());
     }
 
     /// Makes a call with a row of its own for the five numbers, and stores them in
     /// the answer row if that is long enough.
     fn call_and_store(&mut self, function: impl Compared<Rows = R, Filled = B>) -> Numbers {
         let mut numbers = [0; 5];
-        function.call(&self.given, self.buffer.row_mut(), &mut numbers);
+        function.call(&self.given, &mut self.filled, &mut numbers);
         store(numbers, self.answer.row_mut());
         numbers
     }
 }
 
-impl<R: fmt::Display, B: Element> fmt::Display for Memory<R, B> {
+impl<R: fmt::Display, B: Filled> fmt::Display for Memory<R, B> {
     fn fmt(&self, out: &mut fmt::Formatter) -> fmt::Result {
-        write!(out, "{}\n    buffer{}", self.given, self.buffer)?;
+        write!(out, "{}\n    buffer{}", self.given, self.filled)?;
         write!(out, "\n    answer{}", self.answer)
     }
 }
+
+/// A call of a function.
+type CallOf<F> = Call<<F as Compared>::Given, <<F as Compared>::Filled as Filled>::Capacity>;
 
 /// A function under its name in two implementations, the calls that are made of
 /// it, and the codes that it can answer with.
 struct Pair<F: Compared> {
     name: &'static str,
     codes: &'static [u64],
-    call: fn(&mut Source) -> Call<F::Given>,
+    call: fn(&mut Source) -> CallOf<F>,
     implementations: [&'static str; 2],
     functions: [F; 2],
 }
@@ -315,7 +419,7 @@ impl<F: Compared> Pair<F> {
 
     /// Makes a call of both functions. Answers the code under which it is counted, or
     /// says how the two differ or what they changed and must not.
-    fn called(&self, source: &mut Source, call: &Call<F::Given>) -> Result<u64, String> {
+    fn called(&self, source: &mut Source, call: &CallOf<F>) -> Result<u64, String> {
         let before = Memory::before::<F>(source, call);
         let [mut one, mut other] = [before.clone(), before.clone()];
         let numbers = one.call_and_store(self.functions[0]);
@@ -323,10 +427,9 @@ impl<F: Compared> Pair<F> {
         // The memory is looked at as it is, whatever a row that was only given lets one infer.
         let [one, other] = black_box([one, other]);
         let mut must = Memory { answer: one.answer.clone(), ..before.clone() };
-        let written = call.capacity.min(numbers[2] as usize);
-        must.buffer.row_mut()[..written].copy_from_slice(&one.buffer.row()[..written]);
+        must.filled.take(numbers[2] as usize, &one.filled);
         if one == must && other == must {
-            return Ok(F::code(numbers, &one.buffer.row()[..written]));
+            return Ok(F::code(numbers, &one.filled));
         }
         let [one_name, other_name] = self.implementations;
         Err(format!(
@@ -409,13 +512,17 @@ macro_rules! comparison {
 /// its sheets tell. Those that read or write 01's table, or read an entry of it, are
 /// compared again on tables and lists that hold BRACE, those of the C interface on
 /// scheme 3.
-pub const COMPARISONS: [(&str, Comparison); 28] = [
+pub const COMPARISONS: [(&str, Comparison); 32] = [
     comparison!(to_units, to_units, [1, 4]),
     comparison!(to_points, to_points, [1, 10]),
     comparison!(altdude_encode, encode, [1, 2, 3, 4, 5]),
     comparison!(altdude_decode, altdude_decode, [1, 2, 3, 5, 7, 9]),
     comparison!(lace_encode, encode, [1, 2, 3, 4, 6]),
     comparison!(lace_decode, lace_decode, [1, 2, 3, 6, 7, 8, 9]),
+    comparison!(altdude_encode_marked, altdude_encode_marked, [1, 2, 3, 4, 5, 15]),
+    comparison!(altdude_decode_marked, altdude_decode_marked, [1, 2, 3, 5, 7, 9]),
+    comparison!(lace_encode_marked, lace_encode_marked, [1, 2, 3, 4, 6, 15]),
+    comparison!(lace_decode_marked, lace_decode_marked, [1, 2, 3, 6, 7, 8, 9]),
     comparison!(brace_encode, brace_encode, [1, 2, 3, 10]),
     comparison!(brace_decode, brace_decode, [1, 2, 3, 5, 7, 9]),
     comparison!(table_read, table_read, [5, 6, 7, 8, 9, 13, 14]),

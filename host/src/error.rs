@@ -1,4 +1,5 @@
-//! The scope paper's errors: fourteen codes, each reported at a position.
+//! The papers' errors: the scope paper's fourteen codes and 02's 15, each reported at a
+//! position.
 
 /// Why an input is refused. The discriminant is the paper's number.
 #[derive(Clone, Copy, Debug, PartialEq, Eq)]
@@ -31,6 +32,8 @@ pub enum ErrorCode {
     Truncated = 13,
     /// The name table is badly formed.
     Malformed = 14,
+    /// The row of marks is not as long as the text, or a mark in it is not lawful.
+    BadMark = 15,
 }
 
 /// An error: its code and its position.

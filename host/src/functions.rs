@@ -1,4 +1,4 @@
-//! The functions that are compared, all but three in one shape: what the proved library
+//! The functions that are compared, all but seven in one shape: what the proved library
 //! exports for tests, and the two functions of the C interface.
 
 use crate::c_interface::{self, ERROR_BASE};
@@ -16,6 +16,14 @@ pub type Numbers = [u64; 5];
 /// row in which the five numbers of the answer are stored. Beside an entry by itself
 /// are two numbers, its least reader number and its position.
 pub type Function<G, B, N = usize> = fn(&[G], N, &mut [B], &mut [u64]);
+
+/// A function that encodes a text with its marks: the two rows, the buffer to fill, and
+/// the row of the five numbers.
+pub type EncodeMarked = fn((&[u32], &[u8]), &mut [u8], &mut [u64]);
+
+/// A function that decodes a label to a text and its marks: the label, the two buffers to
+/// fill, and the row of the five numbers.
+pub type DecodeMarked = fn(&[u8], (&mut [u32], &mut [u8]), &mut [u64]);
 
 /// The function that writes a table: rows of reader numbers, scheme numbers,
 /// lengths of texts and the points of all texts, the buffer to fill, and the row
@@ -42,6 +50,10 @@ pub struct Implementation {
     pub altdude_decode: Function<u8, u32>,
     pub lace_encode: Function<u32, u8>,
     pub lace_decode: Function<u8, u32>,
+    pub altdude_encode_marked: EncodeMarked,
+    pub altdude_decode_marked: DecodeMarked,
+    pub lace_encode_marked: EncodeMarked,
+    pub lace_decode_marked: DecodeMarked,
     pub brace_encode: Function<u16, u8>,
     pub brace_decode: Function<u8, u16>,
     pub table_read: Function<u8, u8>,
@@ -78,6 +90,24 @@ impl Implementation {
             Scheme::Brace => None,
         }
     }
+
+    /// The function that encodes a text with its marks under a scheme. BRACE takes none.
+    pub fn encode_marked(&self, scheme: Scheme) -> Option<EncodeMarked> {
+        match scheme {
+            Scheme::AltDude => Some(self.altdude_encode_marked),
+            Scheme::Lace => Some(self.lace_encode_marked),
+            Scheme::Brace => None,
+        }
+    }
+
+    /// The function that decodes to a text and its marks under a scheme. BRACE gives none.
+    pub fn decode_marked(&self, scheme: Scheme) -> Option<DecodeMarked> {
+        match scheme {
+            Scheme::AltDude => Some(self.altdude_decode_marked),
+            Scheme::Lace => Some(self.lace_decode_marked),
+            Scheme::Brace => None,
+        }
+    }
 }
 
 /// The independent implementation.
@@ -95,6 +125,18 @@ pub const INDEPENDENT: Implementation = Implementation {
     altdude_decode: |label, _, text, answer| store(numbers(altdude::decode(label, text)), answer),
     lace_encode: |text, _, label, answer| store(numbers(lace::encode(text, label)), answer),
     lace_decode: |label, _, text, answer| store(numbers(lace::decode(label, text)), answer),
+    altdude_encode_marked: |(text, marks), label, answer| {
+        store(numbers(altdude::encode_marked(text, marks, label)), answer);
+    },
+    altdude_decode_marked: |label, (text, marks), answer| {
+        store(numbers(altdude::decode_marked(label, text, marks)), answer);
+    },
+    lace_encode_marked: |(text, marks), label, answer| {
+        store(numbers(lace::encode_marked(text, marks, label)), answer);
+    },
+    lace_decode_marked: |label, (text, marks), answer| {
+        store(numbers(lace::decode_marked(label, text, marks)), answer);
+    },
     brace_encode: |units, _, label, answer| store(numbers(brace::encode(units, label)), answer),
     brace_decode: |label, _, units, answer| store(numbers(brace::decode(label, units)), answer),
     table_read: |table, _, _, answer| store(numbers(nametable::read(table)), answer),

@@ -1,6 +1,7 @@
 //! LACE (source document 004): units, runs, octets, Base32.
 
 use crate::error::{error, error_at, Error, ErrorCode};
+use crate::marks;
 use crate::point::{first_not_point, fold, is_host_label, value_in, LABEL_MAX};
 use crate::utf16::{points_of, units_of};
 
@@ -69,6 +70,23 @@ pub fn decode(label: &[u8], out: &mut [u32]) -> Result<usize, Error> {
     }
     out[..text.len()].copy_from_slice(&text);
     Ok(text.len())
+}
+
+/// Encodes a text with its marks, all of which must be 0. Order: 1, 2, 4, 15, 6, 3.
+pub fn encode_marked(text: &[u32], marks: &[u8], out: &mut [u8]) -> Result<usize, Error> {
+    marks::judge(text, marks, out.len(), |_| false)?;
+    encode(text, out)
+}
+
+/// Decodes a label to a text and its marks, all of which are 0.
+/// Order: 1 for either buffer, 2, 3, 8, 7, 9, 6.
+pub fn decode_marked(label: &[u8], out: &mut [u32], marks: &mut [u8]) -> Result<usize, Error> {
+    if marks.len() < LABEL_MAX {
+        return error(ErrorCode::Capacity);
+    }
+    let count = decode(label, out)?;
+    marks[..count].fill(0);
+    Ok(count)
 }
 
 /// The longest runs of units with equal high octet.

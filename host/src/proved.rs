@@ -55,6 +55,46 @@ extern "C" {
         answer: *mut u64,
         answer_len: usize,
     );
+    fn test_altdude_encode_marked(
+        text: *const u32,
+        text_len: usize,
+        marks: *const u8,
+        marks_len: usize,
+        label: *mut u8,
+        label_len: usize,
+        answer: *mut u64,
+        answer_len: usize,
+    );
+    fn test_altdude_decode_marked(
+        label: *const u8,
+        label_len: usize,
+        text: *mut u32,
+        text_len: usize,
+        marks: *mut u8,
+        marks_len: usize,
+        answer: *mut u64,
+        answer_len: usize,
+    );
+    fn test_lace_encode_marked(
+        text: *const u32,
+        text_len: usize,
+        marks: *const u8,
+        marks_len: usize,
+        label: *mut u8,
+        label_len: usize,
+        answer: *mut u64,
+        answer_len: usize,
+    );
+    fn test_lace_decode_marked(
+        label: *const u8,
+        label_len: usize,
+        text: *mut u32,
+        text_len: usize,
+        marks: *mut u8,
+        marks_len: usize,
+        answer: *mut u64,
+        answer_len: usize,
+    );
     fn test_brace_encode(
         units: *const u16,
         units_len: usize,
@@ -236,6 +276,18 @@ pub const PROVED: Implementation = Implementation {
     },
     lace_encode: |text, _, label, answer| call!(test_lace_encode, [text], [], [label, answer]),
     lace_decode: |label, _, text, answer| call!(test_lace_decode, [label], [], [text, answer]),
+    altdude_encode_marked: |(text, marks), label, answer| {
+        call!(test_altdude_encode_marked, [text, marks], [], [label, answer])
+    },
+    altdude_decode_marked: |label, (text, marks), answer| {
+        call!(test_altdude_decode_marked, [label], [], [text, marks, answer])
+    },
+    lace_encode_marked: |(text, marks), label, answer| {
+        call!(test_lace_encode_marked, [text, marks], [], [label, answer])
+    },
+    lace_decode_marked: |label, (text, marks), answer| {
+        call!(test_lace_decode_marked, [label], [], [text, marks, answer])
+    },
     brace_encode: |units, _, label, answer| call!(test_brace_encode, [units], [], [label, answer]),
     brace_decode: |label, _, units, answer| call!(test_brace_decode, [label], [], [units, answer]),
     table_read: |table, _, _, answer| call!(test_table_read, [table], [], [answer]),

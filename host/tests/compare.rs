@@ -4,9 +4,12 @@
 #[path = "shared/handed_in.rs"]
 mod handed_in;
 
+use distelhut_host::altdude::group_for;
 use distelhut_host::brace::{loose_text, style_of, symbols_in, Style};
 use distelhut_host::compare::COMPARISONS;
-use distelhut_host::functions::{store, Function, Implementation, Receive, TableDiff, INDEPENDENT};
+use distelhut_host::functions::{
+    store, DecodeMarked, EncodeMarked, Function, Implementation, Receive, TableDiff, INDEPENDENT,
+};
 use distelhut_host::point::is_ldh;
 use handed_in::handed_in;
 
@@ -252,6 +255,351 @@ fn errors_of_lace_decode() {
                     (INDEPENDENT.lace_decode)(label, 0, text, answer);
                 },
                 ..INDEPENDENT
+            },
+        ],
+    );
+}
+
+/// Encodes a text with marks under AltDUDE, but shows in another way that a group's point is
+/// marked.
+fn otherwise_shown(
+    (text, marks): (&[u32], &[u8]),
+    label: &mut [u8],
+    answer: &mut [u64],
+    show: fn(&mut [u8]),
+) {
+    let mut five = [0; 5];
+    (INDEPENDENT.altdude_encode_marked)((text, marks), label, &mut five);
+    if five[0] == 0 {
+        let mut remembered = 96;
+        let mut made = Vec::new();
+        for (&point, &mark) in text.iter().zip(marks) {
+            let mut item = if point == 45 { vec![b'-'] } else { group_for(point ^ remembered) };
+            if mark == 1 {
+                show(&mut item);
+            }
+            remembered = if point == 45 { remembered } else { point };
+            made.extend(item);
+        }
+        label[..made.len()].copy_from_slice(&made);
+    }
+    store(five, answer);
+}
+
+/// Encodes a text with marks, but reports an error of this code before 15: the one that the
+/// text has with marks of 0.
+fn before_15(
+    encode: EncodeMarked,
+    (text, marks): (&[u32], &[u8]),
+    label: &mut [u8],
+    answer: &mut [u64],
+    code: u64,
+) {
+    let [mut five, mut other] = [[0; 5]; 2];
+    encode((text, marks), label, &mut five);
+    if five[0] == 15 {
+        encode((text, &vec![0; text.len()]), &mut [0; 63], &mut other);
+        five = if other[0] == code { other } else { five };
+    }
+    store(five, answer);
+}
+
+#[test]
+fn errors_of_the_capitals_of_altdude_encode_marked() {
+    found_in::<EncodeMarked>(
+        "altdude_encode_marked",
+        |altdude_encode_marked| Implementation { altdude_encode_marked, ..INDEPENDENT },
+        &[
+            // there are no capitals
+            |given, label, answer| otherwise_shown(given, label, answer, |_| {}),
+            // the first character of a group is the capital
+            |given, label, answer| {
+                otherwise_shown(given, label, answer, |group| group[0].make_ascii_uppercase());
+            },
+            // the whole group is in capitals
+            |given, label, answer| {
+                otherwise_shown(given, label, answer, |group| group.make_ascii_uppercase());
+            },
+            // groups take marks, hyphens do not
+            |(text, marks), label, answer| {
+                let mut five = [0; 5];
+                (INDEPENDENT.altdude_encode_marked)((text, marks), label, &mut five);
+                if five[0] == 0 {
+                    let mut next = marks.iter().copied();
+                    let mark = |&point: &u32| if point == 45 { 0 } else { next.next().unwrap() };
+                    let marks: Vec<u8> = text.iter().map(mark).collect();
+                    (INDEPENDENT.altdude_encode_marked)((text, &marks), label, &mut five);
+                }
+                store(five, answer);
+            },
+            // any number but 0 is a mark
+            |(text, marks), label, answer| {
+                let marks: Vec<u8> = marks.iter().map(|&mark| mark.min(1)).collect();
+                (INDEPENDENT.altdude_encode_marked)((text, &marks), label, answer);
+            },
+        ],
+    );
+}
+
+#[test]
+fn errors_of_the_refusals_of_altdude_encode_marked() {
+    found_in::<EncodeMarked>(
+        "altdude_encode_marked",
+        |altdude_encode_marked| Implementation { altdude_encode_marked, ..INDEPENDENT },
+        &[
+            // a hyphen may be marked
+            |(text, marks), label, answer| {
+                let mut marks = marks.to_vec();
+                for (mark, _) in marks.iter_mut().zip(text).filter(|(_, point)| **point == 45) {
+                    *mark = if *mark == 1 { 0 } else { *mark };
+                }
+                (INDEPENDENT.altdude_encode_marked)((text, &marks), label, answer);
+            },
+            // a row that is too long is cut
+            |(text, marks), label, answer| {
+                let marks = &marks[..marks.len().min(text.len())];
+                (INDEPENDENT.altdude_encode_marked)((text, marks), label, answer);
+            },
+            // marks that are missing are 0
+            |(text, marks), label, answer| {
+                let mut marks = marks.to_vec();
+                marks.resize(marks.len().max(text.len()), 0);
+                (INDEPENDENT.altdude_encode_marked)((text, &marks), label, answer);
+            },
+            // another length is reported where the shorter row ends
+            |(text, marks), label, answer| {
+                let mut five = [0; 5];
+                (INDEPENDENT.altdude_encode_marked)((text, marks), label, &mut five);
+                if five[0] == 15 && marks.len() != text.len() {
+                    five[1] = marks.len().min(text.len()) as u64;
+                }
+                store(five, answer);
+            },
+            // a row of marks of another length stands against an empty text
+            |(text, marks), label, answer| {
+                if text.is_empty() && !marks.is_empty() && label.len() >= 63 {
+                    return store([15, 0, 0, 0, 0], answer);
+                }
+                (INDEPENDENT.altdude_encode_marked)((text, marks), label, answer);
+            },
+            // 15 before 4
+            |(text, marks), label, answer| {
+                let point = |&number: &u32| char::from_u32(number).map_or(0x61, u32::from);
+                let points: Vec<u32> = text.iter().map(point).collect();
+                let mut five = [0; 5];
+                (INDEPENDENT.altdude_encode_marked)((&points, marks), &mut [0; 63], &mut five);
+                match five[0] == 15 && label.len() >= 63 {
+                    true => store(five, answer),
+                    false => (INDEPENDENT.altdude_encode_marked)((text, marks), label, answer),
+                }
+            },
+            // 5 before 15
+            |given, label, answer| {
+                before_15(INDEPENDENT.altdude_encode_marked, given, label, answer, 5);
+            },
+            // 3 before 15
+            |given, label, answer| {
+                before_15(INDEPENDENT.altdude_encode_marked, given, label, answer, 3);
+            },
+        ],
+    );
+}
+
+#[test]
+fn errors_of_lace_encode_marked() {
+    found_in::<EncodeMarked>(
+        "lace_encode_marked",
+        |lace_encode_marked| Implementation { lace_encode_marked, ..INDEPENDENT },
+        &[
+            // the marks are not looked at
+            |(text, _), label, answer| (INDEPENDENT.lace_encode)(text, 0, label, answer),
+            // a mark of 1 is taken for 0
+            |(text, marks), label, answer| {
+                let marks: Vec<u8> = marks.iter().map(|&mark| mark & !1).collect();
+                (INDEPENDENT.lace_encode_marked)((text, &marks), label, answer);
+            },
+            // 15 is reported at 0
+            |given, label, answer| {
+                let mut five = [0; 5];
+                (INDEPENDENT.lace_encode_marked)(given, label, &mut five);
+                five[1] = if five[0] == 15 { 0 } else { five[1] };
+                store(five, answer);
+            },
+            // 6 before 15
+            |given, label, answer| {
+                before_15(INDEPENDENT.lace_encode_marked, given, label, answer, 6);
+            },
+            // 3 before 15
+            |given, label, answer| {
+                before_15(INDEPENDENT.lace_encode_marked, given, label, answer, 3);
+            },
+        ],
+    );
+}
+
+/// The marks for a label and its text, and a marks buffer that held this.
+type MarksOf = fn(&[u8], &[u32], &[u8]) -> Vec<u8>;
+
+/// Decodes a label to a text and its marks under AltDUDE, with other marks.
+fn otherwise_marked(
+    label: &[u8],
+    (text, marks): (&mut [u32], &mut [u8]),
+    answer: &mut [u64],
+    marks_of: MarksOf,
+) {
+    let held = marks.to_vec();
+    let mut five = [0; 5];
+    (INDEPENDENT.altdude_decode_marked)(label, (text, marks), &mut five);
+    if five[0] == 0 {
+        let made = marks_of(label, &text[..five[2] as usize], &held);
+        marks[..made.len()].copy_from_slice(&made);
+    }
+    store(five, answer);
+}
+
+/// What a rule says of each group of an accepted label of AltDUDE; of a hyphen 0.
+fn marks_by(label: &[u8], rule: fn(&[u8]) -> bool) -> Vec<u8> {
+    let last = |byte: &u8| b"abcdefghijkmnpqr-".contains(&byte.to_ascii_lowercase());
+    label.split_inclusive(last).map(|item| u8::from(item != b"-" && rule(item))).collect()
+}
+
+#[test]
+fn errors_of_the_marks_of_altdude_decode_marked() {
+    found_in::<DecodeMarked>(
+        "altdude_decode_marked",
+        |altdude_decode_marked| Implementation { altdude_decode_marked, ..INDEPENDENT },
+        &[
+            // the first character of a group is looked at
+            |label, filled, answer| {
+                otherwise_marked(label, filled, answer, |label, _, _| {
+                    marks_by(label, |group| group[0].is_ascii_uppercase())
+                });
+            },
+            // any character of a group is looked at
+            |label, filled, answer| {
+                otherwise_marked(label, filled, answer, |label, _, _| {
+                    marks_by(label, |group| group.iter().any(u8::is_ascii_uppercase))
+                });
+            },
+            // a mark is 20 hex
+            |label, filled, answer| {
+                otherwise_marked(label, filled, answer, |label, _, _| {
+                    let marks = marks_by(label, |group| group[group.len() - 1] < 0x61);
+                    marks.iter().map(|mark| mark * 0x20).collect()
+                });
+            },
+            // a hyphen has no mark
+            |label, filled, answer| {
+                otherwise_marked(label, filled, answer, |label, text, _| {
+                    let marks = marks_by(label, |group| group[group.len() - 1] < 0x61);
+                    let marks = marks.iter().zip(text).filter(|(_, &point)| point != 45);
+                    marks.map(|(&mark, _)| mark).collect()
+                });
+            },
+            // the mark of a hyphen is left as it was
+            |label, filled, answer| {
+                otherwise_marked(label, filled, answer, |label, text, held| {
+                    let marks = marks_by(label, |group| group[group.len() - 1] < 0x61);
+                    let kept = |index: usize| if text[index] == 45 { held } else { &marks }[index];
+                    (0..marks.len()).map(kept).collect()
+                });
+            },
+        ],
+    );
+}
+
+#[test]
+fn errors_of_the_buffers_of_altdude_decode_marked() {
+    found_in::<DecodeMarked>(
+        "altdude_decode_marked",
+        |altdude_decode_marked| Implementation { altdude_decode_marked, ..INDEPENDENT },
+        &[
+            // 62 marks are enough
+            |label, (text, marks), answer| {
+                if marks.len() != 62 {
+                    return (INDEPENDENT.altdude_decode_marked)(label, (text, marks), answer);
+                }
+                let mut longer = [0; 63];
+                longer[..62].copy_from_slice(marks);
+                (INDEPENDENT.altdude_decode_marked)(label, (text, &mut longer), answer);
+                marks.copy_from_slice(&longer[..62]);
+            },
+            // the capacity of the marks is asked after the label is judged
+            |label, (text, marks), answer| {
+                let mut five = [0; 5];
+                if text.len() >= 63 && marks.len() < 63 {
+                    (INDEPENDENT.altdude_decode)(label, 0, &mut [0; 63], &mut five);
+                    five = if five[0] == 0 { [1, 0, 0, 0, 0] } else { five };
+                    return store(five, answer);
+                }
+                (INDEPENDENT.altdude_decode_marked)(label, (text, marks), answer);
+            },
+            // the marks are cleared to their end
+            |label, (text, marks), answer| {
+                let mut five = [0; 5];
+                (INDEPENDENT.altdude_decode_marked)(label, (text, marks), &mut five);
+                if five[0] == 0 {
+                    marks[five[2] as usize..].fill(0);
+                }
+                store(five, answer);
+            },
+            // a mark is stored before the label is judged
+            |label, (text, marks), answer| {
+                if let (Some(byte), Some(mark)) = (label.first(), marks.first_mut()) {
+                    *mark = u8::from(byte.is_ascii_uppercase());
+                }
+                (INDEPENDENT.altdude_decode_marked)(label, (text, marks), answer);
+            },
+            // the text is left as it was
+            |label, (text, marks), answer| {
+                let held = text.to_vec();
+                (INDEPENDENT.altdude_decode_marked)(label, (text, marks), answer);
+                text.copy_from_slice(&held);
+            },
+        ],
+    );
+}
+
+#[test]
+fn errors_of_lace_decode_marked() {
+    found_in::<DecodeMarked>(
+        "lace_decode_marked",
+        |lace_decode_marked| Implementation { lace_decode_marked, ..INDEPENDENT },
+        &[
+            // the marks are left as they were
+            |label, (text, marks), answer| {
+                if marks.len() < 63 {
+                    return store([1, 0, 0, 0, 0], answer);
+                }
+                (INDEPENDENT.lace_decode)(label, 0, text, answer);
+            },
+            // the last character tells the last mark
+            |label, (text, marks), answer| {
+                let mut five = [0; 5];
+                (INDEPENDENT.lace_decode_marked)(label, (text, marks), &mut five);
+                if five[0] == 0 {
+                    marks[five[2] as usize - 1] = u8::from(label.last().unwrap() < &0x61);
+                }
+                store(five, answer);
+            },
+            // 63 marks are stored
+            |label, (text, marks), answer| {
+                let mut five = [0; 5];
+                (INDEPENDENT.lace_decode_marked)(label, (text, marks), &mut five);
+                if five[0] == 0 {
+                    marks[..63].fill(0);
+                }
+                store(five, answer);
+            },
+            // the marks need no more capacity than the text has points
+            |label, (text, marks), answer| {
+                let mut five = [0; 5];
+                (INDEPENDENT.lace_decode)(label, 0, text, &mut five);
+                if five[0] == 0 && marks.len() >= five[2] as usize {
+                    marks[..five[2] as usize].fill(0);
+                    return store(five, answer);
+                }
+                (INDEPENDENT.lace_decode_marked)(label, (text, marks), answer);
             },
         ],
     );

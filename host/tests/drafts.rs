@@ -1,5 +1,5 @@
 //! The published examples of source documents 003 and 004. `tests/known.rs`
-//! encodes their texts.
+//! encodes their texts, `tests/marked.rs` those of 003 with their capitals.
 
 mod shared;
 

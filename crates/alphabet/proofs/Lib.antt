@@ -1,3 +1,4 @@
 -- The laws of alphabets.
 pub mod Inverse
+pub mod LookUp
 pub mod Ranges

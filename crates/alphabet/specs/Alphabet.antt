@@ -1,4 +1,4 @@
--- Alphabets of 32 characters: the character of a quintet, and the value of a byte whatever its case.
+-- Alphabets of 32 characters: the character of a quintet, the value of a byte whatever its case, and a byte looked up.
 use Prim.Native.Nat.{ℕ}
 use mathlib.Core.Bool.{Bool, _||_}
 use mathlib.Core.List.{List, [], _∷_, map}
@@ -6,7 +6,8 @@ use lib.Dec.{eqb, ltb}
 use lib.ListN.{length}
 use Rattle.basis.specs.Tests.{both, within, every, everyIn, firstIn}
 use Rattle.basis.specs.Rows.{at}
-use Rattle.ascii.specs.Case.{small}
+use Rattle.ascii.specs.Case.{isCapital, small}
+use Rattle.alphabet.specs.declared.Character.{Character}
 
 -- AltDUDE's characters for 0 to 31: abcdefghijkmnpqrstuvwxyz23456789
 unfoldable pub altdude : List ℕ
@@ -33,6 +34,10 @@ characterOf alphabet quintet = at alphabet quintet
 -- the place of a byte's small form in the alphabet, or the alphabet's length where it has none
 unfoldable pub valueOf : List ℕ → ℕ → ℕ
 valueOf alphabet byte = firstIn (eqb (small byte)) alphabet
+
+-- a byte looked up: its value, and whether it is a capital
+abbrev pub lookUp : List ℕ → ℕ → Character
+lookUp alphabet byte = record { value = valueOf alphabet byte; capital = isCapital byte }
 
 -- the byte has a value
 unfoldable pub isCharacter : List ℕ → ℕ → Bool

@@ -1,15 +1,22 @@
-// The three alphabets as tables indexed by quintet, and the value of a byte, whatever its case, by ranges.
+// The three alphabets as tables indexed by quintet, and the look-up of a byte: its value, whatever its case, by ranges, and whether it
+// is a capital.
 ghost use Prim.Native.Nat.{_+_, _≤_};
 ghost use mathlib.Core.Path.{_≡_};
 ghost use mathlib.Core.List.{[], _∷_};
-ghost use Rattle.alphabet.specs.Alphabet.{altdude, lace, brace, characterOf, valueOf};
-ghost use Rattle.alphabet.specs.Internal.{range, valueBy, altdudeLetters, laceLetters, braceLetters};
+ghost use Rattle.alphabet.specs.Alphabet.{altdude, lace, brace, characterOf, valueOf, lookUp};
+ghost use Rattle.alphabet.specs.Internal.{range, valueBy, withCase, altdudeLetters, laceLetters, braceLetters};
 
 const ALTDUDE: [u8; 32] = *b"abcdefghijkmnpqrstuvwxyz23456789";
 
 const LACE: [u8; 32] = *b"abcdefghijklmnopqrstuvwxyz234567";
 
 const BRACE: [u8; 32] = *b"23456789abcdefghijkmnpqrstuvwxyz";
+
+// A byte as it was looked up: its value, 32 where it has none, and whether it is one of A to Z.
+pub struct Character {
+    pub value: u8,
+    pub capital: bool,
+}
 
 // The value of a byte from first to last, counted up from the value of the first, and 32 for any other.
 fn in_range(byte: u8, first: u8, last: u8, value: u8) -> u8
@@ -39,7 +46,7 @@ fn altdude_letter(byte: u8) -> u8
 }
 
 // The value of a byte in AltDUDE's alphabet, 32 where it has none.
-pub fn altdude_value(byte: u8) -> u8
+fn altdude_value(byte: u8) -> u8
     ensures { λ r. ⌜ r ≡ valueOf altdude byte ⌝ }
 {
     if b'Z' < byte {
@@ -59,7 +66,7 @@ fn lace_letter(byte: u8) -> u8
 }
 
 // The value of a byte in LACE's alphabet, 32 where it has none.
-pub fn lace_value(byte: u8) -> u8
+fn lace_value(byte: u8) -> u8
     ensures { λ r. ⌜ r ≡ valueOf lace byte ⌝ }
 {
     if b'Z' < byte {
@@ -85,7 +92,7 @@ fn brace_letter(byte: u8) -> u8
 }
 
 // The value of a byte in BRACE's alphabet, 32 where it has none.
-pub fn brace_value(byte: u8) -> u8
+fn brace_value(byte: u8) -> u8
     ensures { λ r. ⌜ r ≡ valueOf brace byte ⌝ }
 {
     if b'Z' < byte {
@@ -95,6 +102,37 @@ pub fn brace_value(byte: u8) -> u8
         return in_range(byte, b'2', b'9', 0);
     }
     brace_letter(byte + 32)
+}
+
+// A value with the case of its byte.
+fn with_case(value: u8, byte: u8) -> Character
+    ensures { λ r. ⌜ r ≡ withCase value byte ⌝ }
+{
+    Character {
+        value,
+        capital: ascii::is_capital(byte),
+    }
+}
+
+// A byte looked up in AltDUDE's alphabet.
+pub fn altdude_look_up(byte: u8) -> Character
+    ensures { λ r. ⌜ r ≡ lookUp altdude byte ⌝ }
+{
+    with_case(altdude_value(byte), byte)
+}
+
+// A byte looked up in LACE's alphabet.
+pub fn lace_look_up(byte: u8) -> Character
+    ensures { λ r. ⌜ r ≡ lookUp lace byte ⌝ }
+{
+    with_case(lace_value(byte), byte)
+}
+
+// A byte looked up in BRACE's alphabet.
+pub fn brace_look_up(byte: u8) -> Character
+    ensures { λ r. ⌜ r ≡ lookUp brace byte ⌝ }
+{
+    with_case(brace_value(byte), byte)
 }
 
 // AltDUDE's character for a quintet, 0 for 32 or more.

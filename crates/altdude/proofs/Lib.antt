@@ -3,4 +3,5 @@ pub mod Xor
 pub mod Digits
 pub mod Steps
 pub mod EncodeLaws
+pub mod MarkLaws
 pub mod DecodeLaws

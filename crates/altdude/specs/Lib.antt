@@ -1,6 +1,7 @@
--- AltDUDE: symbols, the encoding, decoding, and what both functions answer.
+-- AltDUDE: symbols, the encoding, decoding, marks, and what both functions answer.
 pub mod Symbols
 pub mod Encoding
 pub mod Decoding
+pub mod Marks
 pub mod Answer
 pub mod Internal

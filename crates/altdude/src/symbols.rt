@@ -9,7 +9,7 @@ pub(crate) fn symbol_of(byte: u8) -> u8
     if byte == 45 {
         return 45;
     }
-    alphabet::altdude_value(byte)
+    alphabet::altdude_look_up(byte).value
 }
 
 // The byte of a symbol.

@@ -27,11 +27,11 @@ abbrev pub AreSymbols : List ℕ → Type 0
 AreSymbols l = (i : ℕ) → i < length l → IsSymbol (at l i)
 
 -- a hyphen, and what is none
-hyphen-symbol : symbolOf 45 ≡ 45
+pub hyphen-symbol : symbolOf 45 ≡ 45
 unfolding symbolOf
 hyphen-symbol = refl
 
-hyphen-byte : byteOf 45 ≡ 45
+pub hyphen-byte : byteOf 45 ≡ 45
 unfolding byteOf
 hyphen-byte = refl
 

@@ -111,12 +111,12 @@ module _ (l : List ℕ) (w : WellFormed l) where
   unfolding textOf
   formed-text = read-text formed-readable
 
-  formed-label : labelOf (textOf l) ≡ map small l
+  pub formed-label : labelOf (textOf l) ≡ map small l
   unfolding labelOf
   formed-label = ap (map byteOf) text-symbols ∙ bytes-symbols l (w .characters)
 
 -- the labels that may be read are those that are well formed
-well-formed-iff : (l : List ℕ) → NoCause (labelCauses l) ↔ WellFormed l
+pub well-formed-iff : (l : List ℕ) → NoCause (labelCauses l) ↔ WellFormed l
 unfolding firstOutside
 well-formed-iff l = (
   λ n.

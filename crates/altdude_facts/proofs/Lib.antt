@@ -5,4 +5,6 @@ pub mod Items
 pub mod Edges
 pub mod Label
 pub mod Settled
+pub mod Marks
 pub mod Faithful
+pub mod Marked

@@ -1,7 +1,7 @@
 -- The causes of refusal, each by itself.
 use Prim.Native.Nat.{ℕ, _-_}
 use mathlib.Core.Path.{_≡_}
-use mathlib.Core.Bool.{not}
+use mathlib.Core.Bool.{true, not}
 use mathlib.Core.Logic.{_⊎_}
 use mathlib.Core.List.{List, [], _∷_}
 use lib.ListN.{length}
@@ -26,9 +26,16 @@ OutsideAt l i = IsFirst (length l) (λ k. not (isCharacter (at l k))) i
 abbrev pub NotWellFormed : List ℕ → Type 0
 NotWellFormed l = WellFormed l → ⊥
 
--- against writing a text, in order: 2, 4, 5, 3
+-- against writing a text that has passed the first tests, in order: 5, 3
+abbrev pub ownTextCauses : List ℕ → List Cause
+ownTextCauses t = whole 5 (EdgeHyphen t) ∷ whole 3 (TooLong (labelOf t)) ∷ []
+
+-- against writing a text, in order: 2, 4, 5, 3; with marks: 2, 4, 15, 5, 3
 abbrev pub textCauses : List ℕ → List Cause
-textCauses t = labels.textCauses t (whole 5 (EdgeHyphen t) ∷ whole 3 (TooLong (labelOf t)) ∷ [])
+textCauses t = labels.textCauses t (ownTextCauses t)
+
+abbrev pub markedTextCauses : (text marks : List ℕ) → List Cause
+markedTextCauses t marks = labels.textCauses t (labels.marksCauses true t marks (ownTextCauses t))
 
 -- against reading a label, in order: 2, 3, 7, 5, 9
 abbrev pub labelCauses : List ℕ → List Cause

@@ -1,5 +1,5 @@
 -- Laws on case: two labels differ at most in case exactly when their small forms are the same.
-use Prim.Native.Nat.{ℕ, suc, _+_, _≤_, _<_}
+use Prim.Native.Nat.{ℕ, suc, _+_, _-_, _≤_, _<_}
 use mathlib.Core.Path.{_≡_, refl, sym, ap, ap₂, _∙_}
 use mathlib.Core.Bool.{true, false, _||_}
 use mathlib.Core.Logic.{inl, inr, _↔_}
@@ -7,9 +7,9 @@ use mathlib.Core.List.{List, [], _∷_, map}
 use lib.ListN.{length, length-map, List·getD-map}
 use native.Mathlib.Omega.{arith}
 use Rattle.basis.specs.Tests.{both, within}
-use Rattle.ascii.specs.Case.{isCapital, small, SameLetter, SameButCase}
+use Rattle.ascii.specs.Case.{isCapital, small, capital, SameLetter, SameButCase}
 use Rattle.basis.specs.Rows.{at}
-use Rattle.basis.proofs.Tests.{cases, within-true, within-below, within-above, within-low, within-high}
+use Rattle.basis.proofs.Tests.{cases, by-lt, within-true, within-below, within-above, within-low, within-high}
 use Rattle.basis.proofs.Lists.{at-map}
 
 -- a capital and its bounds
@@ -25,22 +25,45 @@ small-capital : (b : ℕ) → isCapital b ≡ true → small b ≡ b + 32
 unfolding small
 small-capital b e = rw e
 
-small-other : (b : ℕ) → isCapital b ≡ false → small b ≡ b
+pub small-other : (b : ℕ) → isCapital b ≡ false → small b ≡ b
 unfolding small
 small-other b e = rw e
 
+-- what is a capital, by the range of the byte
+pub capital-inside : (b : ℕ) → 65 ≤ b → b ≤ 90 → isCapital b ≡ true
+unfolding isCapital
+capital-inside b h g = within-true 65 90 b h g
+
+pub capital-below : (b : ℕ) → b < 65 → isCapital b ≡ false
+unfolding isCapital
+capital-below b h = within-below 65 90 b h
+
+pub capital-above : (b : ℕ) → 90 < b → isCapital b ≡ false
+unfolding isCapital
+capital-above b h = within-above 65 90 b h
+
 -- the small form by the range of the byte
 pub small-inside : (b : ℕ) → 65 ≤ b → b ≤ 90 → small b ≡ b + 32
-unfolding isCapital
-small-inside b h g = small-capital b (within-true 65 90 b h g)
+small-inside b h g = small-capital b (capital-inside b h g)
 
 pub small-below : (b : ℕ) → b < 65 → small b ≡ b
-unfolding isCapital
-small-below b h = small-other b (within-below 65 90 b h)
+small-below b h = small-other b (capital-below b h)
 
 pub small-above : (b : ℕ) → 90 < b → small b ≡ b
-unfolding isCapital
-small-above b h = small-other b (within-above 65 90 b h)
+small-above b h = small-other b (capital-above b h)
+
+-- the capital form by the range of the byte
+pub capital-of-small : (b : ℕ) → 97 ≤ b → b ≤ 122 → capital b ≡ b - 32
+unfolding capital
+capital-of-small b h g = rw (within-true 97 122 b h g)
+
+pub capital-of-lower : (b : ℕ) → b < 97 → capital b ≡ b
+unfolding capital
+capital-of-lower b h = rw (within-below 97 122 b h)
+
+pub capital-of-higher : (b : ℕ) → 122 < b → capital b ≡ b
+unfolding capital
+capital-of-higher b h = rw (within-above 97 122 b h)
 
 -- a small letter or a digit is its own small form
 pub small-or-digit : (c : ℕ) → (within 97 122 c || within 48 57 c) ≡ true → small c ≡ c
@@ -64,6 +87,21 @@ all-small (b ∷ l) = ap₂ _∷_ (small-small b) (all-small l)
 pub at-small : (l : List ℕ) (i : ℕ) → at (map small l) i ≡ small (at l i)
 unfolding small isCapital within both
 at-small l i = List·getD-map small l i 0
+
+-- the capital form has the same small form, and is the capital that a small form was made of
+pub small-of-capital : (b : ℕ) → small (capital b) ≡ small b
+small-of-capital b =
+    by-lt b 97
+    (λ h. ap small (capital-of-lower b h))
+    (λ h. by-lt 122 b
+    (λ g. ap small (capital-of-higher b g))
+    (λ g. ap small (capital-of-small b h g) ∙ small-inside (b - 32) (omega arith) (omega arith) ∙ omega (arith, small-above b (omega arith))))
+
+pub capital-of-form : (b : ℕ) → isCapital b ≡ true → capital (small b) ≡ b
+capital-of-form b e =
+    let l = capital-low b e in
+    let h = capital-high b e in
+    ap capital (small-capital b e) ∙ capital-of-small (b + 32) (omega arith) (omega arith) ∙ omega arith
 
 -- two bytes are the same letter exactly when their small forms are the same
 pub same-letter : (a b : ℕ) → SameLetter a b → small a ≡ small b

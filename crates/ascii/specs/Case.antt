@@ -1,5 +1,5 @@
 -- ASCII case: only A to Z (65 to 90) fold, to a to z (97 to 122).
-use Prim.Native.Nat.{ℕ, _+_, _≤_, _<_}
+use Prim.Native.Nat.{ℕ, _+_, _-_, _≤_, _<_}
 use mathlib.Core.Path.{_≡_}
 use mathlib.Core.Bool.{Bool}
 use mathlib.Core.Logic.{_⊎_}
@@ -14,6 +14,10 @@ isCapital b = within 65 90 b
 -- the small form of a capital letter, any other byte itself
 unfoldable pub small : ℕ → ℕ
 small b = pick (isCapital b) (b + 32) b
+
+-- the capital form of a small letter, any other byte itself
+unfoldable pub capital : ℕ → ℕ
+capital b = pick (within 97 122 b) (b - 32) b
 
 -- a is a capital letter and b its small form
 abbrev pub CapitalAndSmall : ℕ → ℕ → Type 0

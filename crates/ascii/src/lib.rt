@@ -1,6 +1,6 @@
 // What labels are made of: letters and their case, LDH, hyphens at an edge, host labels, and a prefix.
 ghost use mathlib.Core.Path.{_≡_};
-ghost use Rattle.ascii.specs.Case.{small};
+ghost use Rattle.ascii.specs.Case.{isCapital, small, capital};
 ghost use Rattle.ascii.specs.Ldh.{isLdh, isAllLdh, hasEdgeHyphen, isHostLabel};
 ghost use Rattle.ascii.specs.Prefix.{hasPrefix};
 
@@ -15,6 +15,32 @@ pub fn small_form(byte: u8) -> u8
         return byte;
     }
     byte + 32
+}
+
+// Whether the byte is one of A to Z.
+pub fn is_capital(byte: u8) -> bool
+    ensures { λ r. ⌜ r ≡ isCapital byte ⌝ }
+{
+    if byte < b'A' {
+        return false;
+    }
+    if b'Z' < byte {
+        return false;
+    }
+    true
+}
+
+// The capital form of a to z, any other byte itself.
+pub fn capital_form(byte: u8) -> u8
+    ensures { λ r. ⌜ r ≡ capital byte ⌝ }
+{
+    if byte < 97 {
+        return byte;
+    }
+    if 122 < byte {
+        return byte;
+    }
+    byte - 32
 }
 
 // Whether the number is a hyphen, a digit, A to Z or a to z.

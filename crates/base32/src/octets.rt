@@ -37,7 +37,7 @@ fn value_at(characters: &[u8], i: usize) -> usize
     ensures { λ r. ⌜ r ≤ 32 ⌝ }
 {
     if i < characters.len() {
-        alphabet::lace_value(characters[i]) as usize
+        alphabet::lace_look_up(characters[i]).value as usize
     } else {
         0
     }

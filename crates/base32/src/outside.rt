@@ -9,7 +9,7 @@ pub fn first_outside_lace(bytes: &[u8]) -> usize
 {
     let mut i = 0;
     while i < bytes.len() {
-        if alphabet::lace_value(bytes[i]) == 32 {
+        if alphabet::lace_look_up(bytes[i]).value == 32 {
             return i;
         }
         i += 1;

@@ -10,7 +10,7 @@ use denote.Enum.Declared.{tagOf}
 use native.Mathlib.Omega.{arith}
 use Rattle.basis.specs.Outcome.{Outcome, done, refused, refusedIf, andThen, bufferAfter, numberOf}
 use Rattle.basis.specs.declared.ErrorCode.{ErrorCode}
-use Rattle.basis.specs.declared.ErrorCode.the-variants.{Capacity, Empty, TooLong, NotAPoint, EdgeHyphen, HostLabel, OutsideAlphabet, NoPrefix, NotWellFormed, UnpairedSurrogate, UnknownScheme, OddByteCount, Truncated, Malformed}
+use Rattle.basis.specs.declared.ErrorCode.the-variants.{Capacity, Empty, TooLong, NotAPoint, EdgeHyphen, HostLabel, OutsideAlphabet, NoPrefix, NotWellFormed, UnpairedSurrogate, UnknownScheme, OddByteCount, Truncated, Malformed, BadMark}
 use Rattle.basis.proofs.ErrorCode.{the-type}
 use Rattle.basis.proofs.Enums.{place-tells}
 use Rattle.basis.proofs.Parts.{front-is, front-fits, front-long}
@@ -150,8 +150,8 @@ unfolding refusedIf
 passed true number position next count e = absurd (done-not-refused e refl)
 passed false number position next count e = (refl, e)
 
--- an error's number is one more than its place among all, of which there are 14
-pub number-place : (code : ErrorCode) → (numberOf code ≡ suc (tagOf the-type code)) × (numberOf code ≤ 14)
+-- an error's number is one more than its place among all, of which there are 15
+pub number-place : (code : ErrorCode) → (numberOf code ≡ suc (tagOf the-type code)) × (numberOf code ≤ 15)
 number-place Capacity = (refl, omega arith)
 number-place Empty = (refl, omega arith)
 number-place TooLong = (refl, omega arith)
@@ -166,6 +166,7 @@ number-place UnknownScheme = (refl, omega arith)
 number-place OddByteCount = (refl, omega arith)
 number-place Truncated = (refl, omega arith)
 number-place Malformed = (refl, omega arith)
+number-place BadMark = (refl, omega arith)
 
 -- so it tells the error
 pub number-tells : (c d : ErrorCode) → numberOf c ≡ numberOf d → c ≡ d

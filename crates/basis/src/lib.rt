@@ -3,7 +3,7 @@
 ghost use mathlib.Core.Path.{_≡_};
 ghost use Rattle.basis.specs.Outcome.{numberOf, countOf, bytesOutcome};
 
-// The causes of refusal of the scope paper, in its order; `numberOf` of specs/Outcome.antt gives each its number.
+// The causes of refusal of the scope paper and of its change requests, in their order; `numberOf` of specs/Outcome.antt gives each its number.
 pub enum ErrorCode {
     Capacity,
     Empty,
@@ -19,6 +19,7 @@ pub enum ErrorCode {
     OddByteCount,
     Truncated,
     Malformed,
+    BadMark,
 }
 
 // How many bytes.
@@ -69,5 +70,6 @@ pub fn code_number(code: ErrorCode) -> u32
         ErrorCode::OddByteCount => 12,
         ErrorCode::Truncated => 13,
         ErrorCode::Malformed => 14,
+        ErrorCode::BadMark => 15,
     }
 }

@@ -23,7 +23,7 @@ fn is_for(symbol: u8, byte: u8) -> bool
     ensures { λ r. ⌜ r ≡ isFor brace symbol byte ⌝ }
 {
     if symbol < 32 {
-        return alphabet::brace_value(byte) == symbol;
+        return alphabet::brace_look_up(byte).value == symbol;
     }
     byte == symbol
 }

@@ -12,7 +12,7 @@ fn value_of(unit: u16) -> u8
     if 255 < unit {
         return 32;
     }
-    alphabet::brace_value(unit as u8)
+    alphabet::brace_look_up(unit as u8).value
 }
 
 // Whether four units are the signature, in either case.

@@ -38,7 +38,7 @@ fn quintet_of(byte: u8) -> u32
     ensures { λ r. ⌜ r ≡ quintetOf brace byte ⌝ }
     ensures { λ r. ⌜ r < 32 ⌝ }
 {
-    (alphabet::brace_value(byte) % 32) as u32
+    (alphabet::brace_look_up(byte).value % 32) as u32
 }
 
 // How many bits a code has that begins with these two bits, in mixed style.

@@ -33,12 +33,15 @@ use Rattle.base32.proofs.Regroup.{length-toOctets}
 use Rattle.base32.proofs.Values.{length-values, length-charactersOf}
 use Rattle.altdude.specs.Encoding as altdude-encoding
 use Rattle.altdude.specs.Decoding as altdude-decoding
+use Rattle.altdude.specs.Marks as altdude-marking
 use Rattle.altdude.specs.Answer as altdude
 use Rattle.altdude.proofs.DecodeLaws as altdude-laws
+use Rattle.altdude_facts.proofs.Marked.{altdude-marks}
 use Rattle.lace_encoding.specs.Encoding as lace-encoding
 use Rattle.lace_decoding.specs.Decoding as lace-decoding
 use Rattle.lace.specs.Answer as lace
 use Rattle.lace_facts.proofs.Label as lace-laws
+use Rattle.lace_facts.proofs.Marked.{lace-marks}
 use Rattle.brace_symbols.specs.Encoding as brace-encoding
 use Rattle.brace_text.specs.Decoding as brace-decoding
 use Rattle.brace_text.specs.Answer.{bodyOutcome}
@@ -53,7 +56,9 @@ use Rattle.scheme.specs.declared.Scheme.the-variants.{Altdude, Lace, Brace}
 use Rattle.scheme.specs.Naming.{rowOf, numberNames, schemeNamed}
 use Rattle.scheme.specs.Naming as naming
 use Rattle.scheme.proofs.Naming.{by-scheme}
-use Rattle.labels.specs.Tests.{textTests, labelTests}
+use Rattle.labels.specs.Tests.{textTests, marksRoomTest, labelTests}
+use Rattle.labels.specs.Marks.{marksTests}
+use Rattle.labels.proofs.FirstTests.{label-passed}
 use Rattle.scheme.specs.Coding as scheme
 use Rattle.nametable_format.specs.Format.{headerKind, headerLength, entryLength, labelCapacity, countOf, tableLength, entryAt, kindOf, readerOf, lengthOf, labelIn, schemeIn}
 use Rattle.nametable.specs.Answer.{headerTests, lengthTests, headerOutcome, formTests, entryJudged, entriesJudged, readOutcome, textIn, entryText, foundOutcome, findOutcome, entryRead, loneEntryOutcome, judgedEntryOutcome}
@@ -210,10 +215,25 @@ module _ {codes values : List ℕ} (capacity : ℕ) {next : Outcome} where
   label-good bytes one two three rest =
       good-if _ _ _ one (λ room. good-if _ _ _ two (λ _. good-if _ _ _ three (λ short. rest (ltb-false capacity 63 room) (ltb-false 63 bytes short))))
 
+-- of marks that are to be written, and of a row for marks that are to be read
+module _ {codes values : List ℕ} {room : ℕ} {next : Outcome} where
+  marks-good : (keeps : Bool) (t marks : List ℕ) → isOneOf codes 15 ≡ true → Good codes next values room → Good codes (marksTests keeps t marks next) values room
+  unfolding marksTests
+  marks-good keeps t marks fifteen rest = good-if _ _ _ (λ _. fifteen) (λ _. good-if _ _ _ (λ _. fifteen) (λ _. rest))
+
+  room-good : (capacity : ℕ) → isOneOf codes 1 ≡ true → (63 ≤ capacity → Good codes next values room) → Good codes (marksRoomTest capacity next) values room
+  unfolding marksRoomTest
+  room-good capacity one rest = good-if _ _ _ (λ _. one) (λ e. rest (ltb-false capacity 63 e))
+
 -- what they answer where nothing follows
 check-text : (capacity : ℕ) (t : List ℕ) → Listed (1 ∷ 2 ∷ 4 ∷ []) (textTests capacity t (done 0))
 unfolding isOneOf
 check-text capacity t = text-good {values = []} capacity t refl refl (λ _. refl) (λ _. good-done 0 refl (omega arith)) .listed
+
+check-marked : (keeps : Bool) (capacity : ℕ) (t marks : List ℕ) → Listed (1 ∷ 2 ∷ 4 ∷ 15 ∷ []) (textTests capacity t (marksTests keeps t marks (done 0)))
+unfolding isOneOf
+check-marked keeps capacity t marks =
+    text-good {values = []} capacity t refl refl (λ _. refl) (λ _. marks-good keeps t marks refl (good-done 0 refl (omega arith))) .listed
 
 check-label : (capacity bytes : ℕ) → Listed (1 ∷ 2 ∷ 3 ∷ []) (labelTests capacity bytes (done 0))
 unfolding isOneOf
@@ -223,11 +243,20 @@ check-label capacity bytes = label-good {values = []} capacity bytes (λ _. refl
 module _ (codes : List ℕ) (capacity : ℕ) (t : List ℕ)
     (one : isOneOf codes 1 ≡ true) (two : isOneOf codes 2 ≡ true) (three : isOneOf codes 3 ≡ true)
     (four : ltb (firstNotPoint t) (length t) ≡ true → isOneOf codes 4 ≡ true) where
+  last-good : (number : ℕ) (own : Bool) (label values : List ℕ) → isOneOf codes number ≡ true → length label ≡ length values → 63 ≤ capacity
+      → Good codes (refusedIf own number 0 (refusedIf (ltb 63 (length label)) 3 0 (done (length label)))) values capacity
+  last-good number own label values here same room =
+      good-if _ _ _ (λ _. here) (λ _. good-if _ _ _ (λ _. three) (λ short. good-done _ same (omega (arith, ltb-false 63 (length label) short))))
+
   own-good : (number : ℕ) (own : Bool) (label : List ℕ) → isOneOf codes number ≡ true
       → Good codes (textTests capacity t (refusedIf own number 0 (refusedIf (ltb 63 (length label)) 3 0 (done (length label))))) label capacity
-  own-good number own label here =
-      text-good capacity t one two four (λ room. good-if _ _ _ (λ _. here) (λ _. good-if _ _ _ (λ _. three) (λ short.
-      good-done _ refl (omega (arith, ltb-false 63 (length label) short)))))
+  own-good number own label here = text-good capacity t one two four (last-good number own label label here refl)
+
+  -- with marks, and values as many as the label has bytes
+  marked-good : (keeps : Bool) (marks : List ℕ) (number : ℕ) (own : Bool) (label values : List ℕ) → isOneOf codes 15 ≡ true → isOneOf codes number ≡ true → length label ≡ length values
+      → Good codes (textTests capacity t (marksTests keeps t marks (refusedIf own number 0 (refusedIf (ltb 63 (length label)) 3 0 (done (length label)))))) values capacity
+  marked-good keeps marks number own label values fifteen here same =
+      text-good capacity t one two four (λ room. marks-good keeps t marks fifteen (last-good number own label values here same room))
 
   altdude-encoded : isOneOf codes 5 ≡ true → Good codes (altdude.encodeOutcome capacity t) (altdude-encoding.labelOf t) capacity
   unfolding altdude.encodeOutcome
@@ -254,6 +283,50 @@ module _ (codes : List ℕ) (capacity : ℕ) (l : List ℕ)
       label-good capacity (length l) one two three (λ room short.
       good-if _ _ _ (λ _. eight) (λ _. good-if _ _ _ (λ _. seven) (λ _. good-if _ _ _ (λ _. nine) (λ _. good-if _ _ _ (λ _. six) (λ _.
       good-done _ refl (omega (arith, lace-laws.text-fits l)))))))
+
+-- writing with marks
+altdude-encode-marked : (text marks label : List ℕ)
+    → Answers (1 ∷ 2 ∷ 4 ∷ 15 ∷ 5 ∷ 3 ∷ []) (altdude.encodeMarkedOutcome (length label) text marks) (altdude-marking.marked marks (altdude-encoding.labelOf text)) label
+unfolding altdude.encodeMarkedOutcome isOneOf
+altdude-encode-marked text marks label =
+    answers _ (marked-good _ _ text refl refl refl (λ _. refl) true marks 5 _ (altdude-encoding.labelOf text) _ refl refl (altdude-marks .same-label text marks .equallyLong))
+
+lace-encode-marked : (text marks label : List ℕ)
+    → Answers (1 ∷ 2 ∷ 4 ∷ 15 ∷ 6 ∷ 3 ∷ []) (lace.encodeMarkedOutcome isHostLabel (length label) text marks) (lace-encoding.labelOf text) label
+unfolding lace.encodeMarkedOutcome isOneOf
+lace-encode-marked text marks label = answers _ (marked-good _ _ text refl refl refl (λ _. refl) false marks 6 _ (lace-encoding.labelOf text) _ refl refl refl)
+
+-- reading with marks: what is as long as the text of a label is good in another buffer with the room
+beside-good : {codes values : List ℕ} (capacity bytes : ℕ) (next : Outcome) (others : List ℕ) (room : ℕ) → Good codes (labelTests capacity bytes next) values capacity
+    → length others ≡ length values → length values ≤ bytes → 63 ≤ room → Good codes (labelTests capacity bytes next) others room
+beside-good capacity bytes next others room good same fits wide = record {
+  listed = good .listed;
+  counts = λ n e. let c = good .counts n e in (c .0 ∙ sym same, omega (arith, label-passed capacity bytes n next e .short, c .0));
+}
+
+altdude-decode-marked-text : (label text marks : List ℕ)
+    → Answers (decodeCodes Altdude) (altdude.decodeMarkedOutcome (length text) (length marks) label) (altdude-decoding.textOf label) text
+unfolding altdude.decodeMarkedOutcome decodeCodes isOneOf
+altdude-decode-marked-text label text marks = answers _ (room-good (length marks) refl (λ _. altdude-decoded _ _ _ (λ _. refl) (λ _. refl) (λ _. refl) refl refl refl))
+
+altdude-decode-marked-marks : (label text marks : List ℕ)
+    → Answers (decodeCodes Altdude) (altdude.decodeMarkedOutcome (length text) (length marks) label) (altdude-marking.marksOf label) marks
+unfolding altdude.decodeMarkedOutcome altdude.decodeOutcome decodeCodes isOneOf
+altdude-decode-marked-marks label text marks =
+    answers _ (room-good (length marks) refl
+    (beside-good (length text) (length label) _ _ _ (altdude-decoded _ _ label (λ _. refl) (λ _. refl) (λ _. refl) refl refl refl) (altdude-marks .as-many label) (altdude-laws.text-fits label)))
+
+lace-decode-marked-text : (label text marks : List ℕ)
+    → Answers (decodeCodes Lace) (lace.decodeMarkedOutcome isHostLabel (length text) (length marks) label) (lace-decoding.textOf label) text
+unfolding lace.decodeMarkedOutcome decodeCodes isOneOf
+lace-decode-marked-text label text marks = answers _ (room-good (length marks) refl (λ _. lace-decoded _ _ _ (λ _. refl) (λ _. refl) (λ _. refl) refl refl refl refl))
+
+lace-decode-marked-marks : (label text marks : List ℕ)
+    → Answers (decodeCodes Lace) (lace.decodeMarkedOutcome isHostLabel (length text) (length marks) label) (lace-decoding.marksOf label) marks
+unfolding lace.decodeMarkedOutcome lace.decodeOutcome decodeCodes isOneOf
+lace-decode-marked-marks label text marks =
+    answers _ (room-good (length marks) refl
+    (beside-good (length text) (length label) _ _ _ (lace-decoded _ _ label (λ _. refl) (λ _. refl) (λ _. refl) refl refl refl refl) (lace-marks .as-many label) (lace-laws.text-fits label)))
 
 -- BRACE: writing never gives 5, and 1, 2 and 10 need be listed only if their tests hold
 module _ (codes : List ℕ) (capacity : ℕ) (three : isOneOf codes 3 ≡ true) where
@@ -631,11 +704,18 @@ demand1 = record {
   base32EncodeOrder = encode-settled;
   base32DecodeOrder = decode-settled;
   checkText = check-text;
+  checkMarked = check-marked;
   checkLabel = check-label;
   altdudeEncode = scheme-encode Altdude;
   altdudeDecode = scheme-decode Altdude;
+  altdudeEncodeMarked = altdude-encode-marked;
+  altdudeDecodeMarkedText = altdude-decode-marked-text;
+  altdudeDecodeMarkedMarks = altdude-decode-marked-marks;
   laceEncode = scheme-encode Lace;
   laceDecode = scheme-decode Lace;
+  laceEncodeMarked = lace-encode-marked;
+  laceDecodeMarkedText = lace-decode-marked-text;
+  laceDecodeMarkedMarks = lace-decode-marked-marks;
   braceEncode = brace-encode;
   braceDecode = brace-decode;
   bracePutSymbols = put-symbols;

@@ -7,6 +7,7 @@ pub mod Differences
 pub mod Receiving
 pub mod Demand1
 pub mod Demands
+pub mod Marks
 pub mod Written
 pub mod ShortForm
 pub mod KnownLabels

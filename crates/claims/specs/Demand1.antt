@@ -1,7 +1,8 @@
 -- Demand 1: what every public function answers and leaves, whatever it is given, and that a table that is cut is refused as cut. The outcomes and
 -- the values are the definitions that the contracts cite. The order of the refusals is that of their tests; by causes it is said of the
--- conversions, of Base32, of the tables, of a receiver and of the report on two tables here, and of the schemes and the C interface in
--- demand 2. That a call ends and stays inside what it was passed is what the checker proves of each function.
+-- conversions, of Base32, of the tables, of a receiver and of the report on two tables here, of the schemes and the C interface in
+-- demand 2, and of the schemes with marks in Marks.antt. That a call ends and stays inside what it was passed is what the checker proves
+-- of each function.
 use Prim.Native.Nat.{ℕ, _+_, _*_, _≤_, _<_}
 use mathlib.Core.Path.{_≡_}
 use mathlib.Core.Bool.{Bool, true, false, _||_}
@@ -23,8 +24,10 @@ use Rattle.base32.specs.Base32.{quintetCount, charactersOf, toOctets}
 use Rattle.base32.specs.Answer as base32
 use Rattle.base32.specs.Causes.{encodeCauses, decodeCauses}
 use Rattle.labels.specs.Tests.{textTests, labelTests}
+use Rattle.labels.specs.Marks.{marksTests}
 use Rattle.altdude.specs.Encoding as altdude-encoding
 use Rattle.altdude.specs.Decoding as altdude-decoding
+use Rattle.altdude.specs.Marks as altdude-marking
 use Rattle.altdude.specs.Answer as altdude
 use Rattle.lace_encoding.specs.Encoding as lace-encoding
 use Rattle.lace_decoding.specs.Decoding as lace-decoding
@@ -164,16 +167,31 @@ pub record Demand1 : Type 0 where
       → Settles (decodeCauses characters capacity) (octetCount (length characters)) (base32.decodeOutcome characters capacity)
   -- labels: what the first tests answer where nothing follows
   pub checkText : (capacity : ℕ) (text : List ℕ) → Listed (1 ∷ 2 ∷ 4 ∷ []) (textTests capacity text (done 0))
+  pub checkMarked : (keeps : Bool) (capacity : ℕ) (text marks : List ℕ)
+      → Listed (1 ∷ 2 ∷ 4 ∷ 15 ∷ []) (textTests capacity text (marksTests keeps text marks (done 0)))
   pub checkLabel : (capacity bytes : ℕ) → Listed (1 ∷ 2 ∷ 3 ∷ []) (labelTests capacity bytes (done 0))
-  -- altdude, lace, brace of units and of points, and by scheme
+  -- altdude and lace, each also with marks, of which decoding leaves one row in each of two buffers; brace of units and of points; and
+  -- by scheme
   pub altdudeEncode : (text label : List ℕ)
       → Answers (encodeCodes Altdude) (altdude.encodeOutcome (length label) text) (altdude-encoding.labelOf text) label
   pub altdudeDecode : (label text : List ℕ)
       → Answers (decodeCodes Altdude) (altdude.decodeOutcome (length text) label) (altdude-decoding.textOf label) text
+  pub altdudeEncodeMarked : (text marks label : List ℕ)
+      → Answers (1 ∷ 2 ∷ 4 ∷ 15 ∷ 5 ∷ 3 ∷ []) (altdude.encodeMarkedOutcome (length label) text marks) (altdude-marking.marked marks (altdude-encoding.labelOf text)) label
+  pub altdudeDecodeMarkedText : (label text marks : List ℕ)
+      → Answers (decodeCodes Altdude) (altdude.decodeMarkedOutcome (length text) (length marks) label) (altdude-decoding.textOf label) text
+  pub altdudeDecodeMarkedMarks : (label text marks : List ℕ)
+      → Answers (decodeCodes Altdude) (altdude.decodeMarkedOutcome (length text) (length marks) label) (altdude-marking.marksOf label) marks
   pub laceEncode : (text label : List ℕ)
       → Answers (encodeCodes Lace) (lace.encodeOutcome isHostLabel (length label) text) (lace-encoding.labelOf text) label
   pub laceDecode : (label text : List ℕ)
       → Answers (decodeCodes Lace) (lace.decodeOutcome isHostLabel (length text) label) (lace-decoding.textOf label) text
+  pub laceEncodeMarked : (text marks label : List ℕ)
+      → Answers (1 ∷ 2 ∷ 4 ∷ 15 ∷ 6 ∷ 3 ∷ []) (lace.encodeMarkedOutcome isHostLabel (length label) text marks) (lace-encoding.labelOf text) label
+  pub laceDecodeMarkedText : (label text marks : List ℕ)
+      → Answers (decodeCodes Lace) (lace.decodeMarkedOutcome isHostLabel (length text) (length marks) label) (lace-decoding.textOf label) text
+  pub laceDecodeMarkedMarks : (label text marks : List ℕ)
+      → Answers (decodeCodes Lace) (lace.decodeMarkedOutcome isHostLabel (length text) (length marks) label) (lace-decoding.marksOf label) marks
   pub braceEncode : (units label : List ℕ)
       → Answers (1 ∷ 2 ∷ 10 ∷ 3 ∷ []) (brace.encodeOutcome (length label) units) (brace-encoding.labelOf units) label
   pub braceDecode : (label units : List ℕ)

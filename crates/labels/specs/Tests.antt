@@ -14,6 +14,10 @@ textTests capacity t next =
     (refusedIf (ltb (firstNotPoint t) (length t)) 4 (firstNotPoint t)
     next))
 
+-- a row for marks that are to be read: 1
+unfoldable pub marksRoomTest : ℕ → Outcome → Outcome
+marksRoomTest capacity next = refusedIf (ltb capacity 63) 1 0 next
+
 -- a label of so many bytes that is to be read into so many points: 1, 2, 3
 unfoldable pub labelTests : ℕ → ℕ → Outcome → Outcome
 labelTests capacity bytes next =

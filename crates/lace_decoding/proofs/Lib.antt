@@ -1,2 +1,3 @@
 -- The laws of reading LACE.
 pub mod DecodeLaws
+pub mod Lengths

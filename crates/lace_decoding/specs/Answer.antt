@@ -6,7 +6,7 @@ use lib.Dec.{ltb}
 use lib.ListN.{length}
 use Rattle.basis.specs.Outcome.{Outcome, done, refusedIf}
 use Rattle.ascii.specs.Prefix.{hasPrefix, afterPrefix}
-use Rattle.labels.specs.Tests.{labelTests}
+use Rattle.labels.specs.Tests.{marksRoomTest, labelTests}
 use Rattle.alphabet.specs.Alphabet.{lace}
 use Rattle.base32.specs.Answer.{firstOutside}
 use Rattle.lace_format.specs.Prefix.{prefix}
@@ -21,3 +21,7 @@ decodeOutcome reserved capacity l =
     (refusedIf (not (isReadable l)) 9 0
     (refusedIf (reserved (labelUnits l)) 6 0
     (done (length (textOf l)))))))
+
+-- decoding a label into buffers of so many points and so many marks: 1 for the marks, then as without marks
+unfoldable pub decodeMarkedOutcome : (List ℕ → Bool) → (textCapacity marksCapacity : ℕ) → List ℕ → Outcome
+decodeMarkedOutcome reserved textCapacity marksCapacity l = marksRoomTest marksCapacity (decodeOutcome reserved textCapacity l)

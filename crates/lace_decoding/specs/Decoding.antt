@@ -12,6 +12,7 @@ use Rattle.alphabet.specs.Alphabet.{lace, valuesOf}
 use Rattle.base32.specs.Form.{isLawful}
 use Rattle.base32.specs.Base32.{toOctets}
 use Rattle.utf16.specs.Bytes.{unitsOfBytes}
+use Rattle.labels.specs.Marks.{noMarks}
 use Rattle.lace_format.specs.Prefix.{prefix}
 use Rattle.lace_format.specs.Octets.{unitOf, runCount}
 use Rattle.lace_decoding.specs.declared.decoding.Place.{Place}
@@ -86,3 +87,7 @@ isReadable l =
 -- the text of a label
 unfoldable pub textOf : List ℕ → List ℕ
 textOf l = toPoints (labelUnits l)
+
+-- the marks of a label: one for each point, all 0
+unfoldable pub marksOf : List ℕ → List ℕ
+marksOf l = noMarks (length (textOf l))

@@ -115,7 +115,7 @@ module _ (l : List ℕ) (w : WellFormed l) where
   formed-free : reserved (labelUnits l) ≡ false
   formed-free = ap reserved (sym (formed-units l (w .units) (w .formed))) ∙ w .noHostLabel
 
-  formed-spelled : labelOf (textOf l) ≡ map small l
+  pub formed-spelled : labelOf (textOf l) ≡ map small l
   formed-spelled = passes-spelled l formed-tested
 
 -- a label that passes the tests and whose units are not reserved is well formed
@@ -123,7 +123,7 @@ passes-well : (l : List ℕ) → Passes l → reserved (labelUnits l) ≡ false 
 passes-well l p r = record { units = labelUnits l; formed = passes-formed l p; noHostLabel = r }
 
 -- the labels that may be read are those that are well formed
-well-formed-iff : (l : List ℕ) → NoCause (labelCauses l) ↔ WellFormed l
+pub well-formed-iff : (l : List ℕ) → NoCause (labelCauses l) ↔ WellFormed l
 unfolding firstOutside
 well-formed-iff l = (
   λ n.

@@ -17,7 +17,6 @@ use Rattle.ascii.specs.Prefix.{hasPrefix, afterPrefix}
 use Rattle.ascii.proofs.Case.{small-small, at-small}
 use Rattle.ascii.proofs.Prefix.{prefix-small, after-small}
 use Rattle.utf16.specs.Units.{unpairedAt, firstUnpaired}
-use Rattle.utf16.proofs.RoundTrip.{length-toPoints}
 use Rattle.alphabet.specs.Alphabet.{lace, valueOf, isCharacter, valuesOf}
 use Rattle.base32.specs.Bits.{bitOf, rowBit, group, regroup}
 use Rattle.base32.specs.Form.{octetCount, lengthLawful, isLawful}
@@ -28,9 +27,9 @@ use Rattle.base32.proofs.Bits.{fromBits-same, rowBit-lt, bits-back, row-back}
 use Rattle.base32.proofs.Regroup.{length-toOctets, toOctets-below, count-lawful}
 use Rattle.base32.proofs.Values.{length-values, octets-tabulate}
 use Rattle.lace_format.specs.Prefix.{prefix}
-use Rattle.lace_decoding.specs.Decoding.{unitsOf, standForUnits, labelOctets, labelUnits, isReadable, textOf}
+use Rattle.lace_decoding.specs.Decoding.{unitsOf, standForUnits, labelOctets, labelUnits, isReadable}
 use Rattle.lace_encoding.proofs.Runs.{units-few}
-use Rattle.lace_decoding.proofs.DecodeLaws.{units-le}
+pub use Rattle.lace_decoding.proofs.Lengths.{label-octets-count, text-fits}
 use Rattle.lace_facts.proofs.PrefixRule.{prefix-iff}
 use Rattle.lace_facts.specs.WellFormed.{OctetsIn, StandFor, Formed}
 use Rattle.lace_facts.proofs.UnitOctets.{stand-read, units-some}
@@ -86,20 +85,11 @@ pub label-octets-below : (l : List ℕ) → AllBelow 256 (labelOctets l)
 unfolding labelOctets
 label-octets-below l = toOctets-below (valuesOf lace (afterPrefix prefix l))
 
-pub label-octets-count : (l : List ℕ) → length (labelOctets l) ≡ octetCount (length (afterPrefix prefix l))
-unfolding labelOctets
-label-octets-count l = length-toOctets (valuesOf lace (afterPrefix prefix l)) ∙ ap octetCount (length-values lace (afterPrefix prefix l))
-
 pub label-octets-few : (l : List ℕ) → length l ≤ 63 → length (labelOctets l) ≤ 36
 label-octets-few l h = omega (arith, label-octets-count l, length-drop 4 l)
 
 octets-short : (l : List ℕ) → length l ≤ 63 → length (labelOctets l) ≤ 254
 octets-short l h = omega (arith, label-octets-few l h)
-
--- a text has at most as many points as its label has bytes
-pub text-fits : (l : List ℕ) → length (textOf l) ≤ length l
-unfolding textOf labelUnits
-text-fits l = omega (arith, length-toPoints (labelUnits l), units-le (labelOctets l), label-octets-count l, length-drop 4 l)
 
 -- characters of a lawful number, one or more, hold one octet or more
 lawful-some : (l : List ℕ) → 1 ≤ length (afterPrefix prefix l) → lengthLawful (length (afterPrefix prefix l)) ≡ true → 1 ≤ length (labelOctets l)

@@ -8,3 +8,4 @@ pub mod Reserved
 pub mod Settled
 pub mod LongLdh
 pub mod Faithful
+pub mod Marked

@@ -1,7 +1,7 @@
 -- The causes of refusal settle what encoding and decoding answer.
 use Prim.Native.Nat.{ℕ, _+_, _≤_, _<_}
 use mathlib.Core.Path.{_≡_, refl, sym, ap, _∙_}
-use mathlib.Core.Bool.{true, not}
+use mathlib.Core.Bool.{true, false, not}
 use mathlib.Core.Logic.{_↔_, Iff·rfl}
 use mathlib.Core.List.{List, _∷_}
 use lib.ListN.{length}
@@ -12,6 +12,7 @@ use Rattle.basis.proofs.Tests.{ltb-iff, fails-iff}
 use Rattle.basis.proofs.Causes.{settle-whole, settle-place, settle-done}
 use Rattle.ascii.specs.Prefix.{hasPrefix, afterPrefix}
 use Rattle.labels.proofs.FirstTests.{settle-text, settle-label}
+use Rattle.labels.proofs.MarkTests.{settle-marks}
 use Rattle.alphabet.specs.Alphabet.{lace, isCharacter}
 use Rattle.base32.specs.Answer.{firstOutside}
 use Rattle.lace_format.specs.Prefix.{prefix}
@@ -19,8 +20,9 @@ use Rattle.lace_encoding.specs.Encoding.{labelOf}
 use Rattle.lace_facts.proofs.PrefixRule.{prefix-iff}
 use Rattle.lace_facts.specs.WellFormed.{Formed}
 use Rattle.lace_decoding.specs.Decoding.{isReadable, labelUnits, textOf}
-use Rattle.lace.specs.Answer.{encodeOutcome, decodeOutcome}
-use Rattle.lace_facts.specs.Causes.{OutsideAfterPrefix, NotFormed, OnlyHostLabel, textCauses, labelCauses}
+use Rattle.lace_encoding.specs.Answer.{labelOutcome}
+use Rattle.lace.specs.Answer.{encodeOutcome, encodeMarkedOutcome, decodeOutcome}
+use Rattle.lace_facts.specs.Causes.{OutsideAfterPrefix, NotFormed, OnlyHostLabel, ownTextCauses, textCauses, markedTextCauses, labelCauses}
 use Rattle.lace_facts.proofs.Label.{Passes, passes-formed, formed-units, formed-iff}
 use Rattle.lace_facts.proofs.Reserved.{reserved}
 
@@ -53,10 +55,18 @@ decode-settled capacity l =
     (λ r. settle-whole _ 6 (reserved-iff l short first inside (not-false _ r))
     (λ _. settle-done (length (textOf l)))))))
 
+-- 6 and 3, of a text that passed the first tests
+own-settled : (t : List ℕ) → Settles (ownTextCauses t) (length (labelOf t)) (labelOutcome reserved t)
+own-settled t =
+    settle-whole _ 6 Iff·rfl
+    (λ _. settle-whole _ 3 (ltb-iff 63 (length (labelOf t)))
+    (λ _. settle-done (length (labelOf t))))
+
 pub encode-settled : (capacity : ℕ) (t : List ℕ) → Settles (whole 1 (capacity < 63) ∷ textCauses t) (length (labelOf t)) (encodeOutcome reserved capacity t)
 unfolding encodeOutcome
-encode-settled capacity t =
-    settle-text capacity t
-    (settle-whole _ 6 Iff·rfl
-    (λ _. settle-whole _ 3 (ltb-iff 63 (length (labelOf t)))
-    (λ _. settle-done (length (labelOf t)))))
+encode-settled capacity t = settle-text capacity t (own-settled t)
+
+pub encode-marked-settled : (capacity : ℕ) (t marks : List ℕ)
+    → Settles (whole 1 (capacity < 63) ∷ markedTextCauses t marks) (length (labelOf t)) (encodeMarkedOutcome reserved capacity t marks)
+unfolding encodeMarkedOutcome
+encode-marked-settled capacity t marks = settle-text capacity t (settle-marks false t marks (own-settled t))

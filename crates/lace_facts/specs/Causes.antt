@@ -1,7 +1,7 @@
 -- The causes of refusal, each by itself.
 use Prim.Native.Nat.{ℕ, _+_, _<_}
 use mathlib.Core.Path.{_≡_}
-use mathlib.Core.Bool.{true}
+use mathlib.Core.Bool.{true, false}
 use mathlib.Core.List.{List, [], _∷_}
 use Rattle.basis.specs.Rows.{at}
 use Rattle.basis.specs.Causes.{Cause, whole, placed}
@@ -32,9 +32,16 @@ NotFormed l = (units : List ℕ) → Formed l units → ⊥
 abbrev pub OnlyHostLabel : List ℕ → Type 0
 OnlyHostLabel l = (units : List ℕ) × Formed l units × (isHostLabel units ≡ true)
 
--- against writing a text, in order: 2, 4, 6, 3
+-- against writing a text that has passed the first tests, in order: 6, 3
+abbrev pub ownTextCauses : List ℕ → List Cause
+ownTextCauses t = whole 6 (isHostLabel t ≡ true) ∷ whole 3 (TooLong (labelOf t)) ∷ []
+
+-- against writing a text, in order: 2, 4, 6, 3; with marks: 2, 4, 15, 6, 3
 abbrev pub textCauses : List ℕ → List Cause
-textCauses t = labels.textCauses t (whole 6 (isHostLabel t ≡ true) ∷ whole 3 (TooLong (labelOf t)) ∷ [])
+textCauses t = labels.textCauses t (ownTextCauses t)
+
+abbrev pub markedTextCauses : (text marks : List ℕ) → List Cause
+markedTextCauses t marks = labels.textCauses t (labels.marksCauses false t marks (ownTextCauses t))
 
 -- against reading a label, in order: 2, 3, 8, 7, 9, 6
 abbrev pub labelCauses : List ℕ → List Cause

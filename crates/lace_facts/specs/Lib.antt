@@ -2,3 +2,4 @@
 pub mod WellFormed
 pub mod Causes
 pub mod Codec
+pub mod Marked

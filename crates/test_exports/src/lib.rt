@@ -13,11 +13,12 @@ ghost use Rattle.utf16.specs.Units.{toUnits, toPoints};
 ghost use Rattle.utf16.specs.Answer.{toUnitsOutcome, toPointsOutcome};
 ghost use Rattle.altdude.specs.Encoding.{labelOf as altdudeLabelOf};
 ghost use Rattle.altdude.specs.Decoding.{textOf as altdudeTextOf};
-ghost use Rattle.altdude.specs.Answer.{encodeOutcome as altdudeEncodeOutcome, decodeOutcome as altdudeDecodeOutcome};
+ghost use Rattle.altdude.specs.Marks.{marked, marksOf as altdudeMarksOf};
+ghost use Rattle.altdude.specs.Answer.{encodeOutcome as altdudeEncodeOutcome, encodeMarkedOutcome as altdudeEncodeMarkedOutcome, decodeOutcome as altdudeDecodeOutcome, decodeMarkedOutcome as altdudeDecodeMarkedOutcome};
 ghost use Rattle.ascii.specs.Ldh.{isHostLabel};
 ghost use Rattle.lace_encoding.specs.Encoding.{labelOf as laceLabelOf};
-ghost use Rattle.lace_decoding.specs.Decoding.{textOf as laceTextOf};
-ghost use Rattle.lace.specs.Answer.{encodeOutcome as laceEncodeOutcome, decodeOutcome as laceDecodeOutcome};
+ghost use Rattle.lace_decoding.specs.Decoding.{textOf as laceTextOf, marksOf as laceMarksOf};
+ghost use Rattle.lace.specs.Answer.{encodeOutcome as laceEncodeOutcome, encodeMarkedOutcome as laceEncodeMarkedOutcome, decodeOutcome as laceDecodeOutcome, decodeMarkedOutcome as laceDecodeMarkedOutcome};
 ghost use Rattle.brace_symbols.specs.Encoding.{labelOf as braceLabelOf};
 ghost use Rattle.brace_text.specs.Decoding.{textOf as braceTextOf};
 ghost use Rattle.brace.specs.Answer.{encodeOutcome as braceEncodeOutcome, decodeOutcome as braceDecodeOutcome};
@@ -88,6 +89,64 @@ pub extern "C" fn test_lace_decode(label: &[u8], text: &mut [u32], answer: &mut 
     ensures { λ _. ⌜ now (answer .exit) ≡ answerAfter (numbersOf (laceDecodeOutcome isHostLabel (length (now (text .entry))) (now (label .entry)))) (now (answer .entry)) ⌝ }
 {
     answers::store_points(lace::decode(label, text), answer);
+}
+
+// Exports `altdude::encode_marked`.
+#[no_mangle]
+pub extern "C" fn test_altdude_encode_marked(
+    text: &[u32],
+    marks: &[u8],
+    label: &mut [u8],
+    answer: &mut [u64],
+)
+    ensures { λ _. ⌜ now (label .exit) ≡ bufferAfter (altdudeEncodeMarkedOutcome (length (now (label .entry))) (now (text .entry)) (now (marks .entry))) (marked (now (marks .entry)) (altdudeLabelOf (now (text .entry)))) (now (label .entry)) ⌝ }
+    ensures { λ _. ⌜ now (answer .exit) ≡ answerAfter (numbersOf (altdudeEncodeMarkedOutcome (length (now (label .entry))) (now (text .entry)) (now (marks .entry)))) (now (answer .entry)) ⌝ }
+{
+    answers::store_bytes(altdude::encode_marked(text, marks, label), answer);
+}
+
+// Exports `altdude::decode_marked`.
+#[no_mangle]
+pub extern "C" fn test_altdude_decode_marked(
+    label: &[u8],
+    text: &mut [u32],
+    marks: &mut [u8],
+    answer: &mut [u64],
+)
+    ensures { λ _. ⌜ now (text .exit) ≡ bufferAfter (altdudeDecodeMarkedOutcome (length (now (text .entry))) (length (now (marks .entry))) (now (label .entry))) (altdudeTextOf (now (label .entry))) (now (text .entry)) ⌝ }
+    ensures { λ _. ⌜ now (marks .exit) ≡ bufferAfter (altdudeDecodeMarkedOutcome (length (now (text .entry))) (length (now (marks .entry))) (now (label .entry))) (altdudeMarksOf (now (label .entry))) (now (marks .entry)) ⌝ }
+    ensures { λ _. ⌜ now (answer .exit) ≡ answerAfter (numbersOf (altdudeDecodeMarkedOutcome (length (now (text .entry))) (length (now (marks .entry))) (now (label .entry)))) (now (answer .entry)) ⌝ }
+{
+    answers::store_points(altdude::decode_marked(label, text, marks), answer);
+}
+
+// Exports `lace::encode_marked`.
+#[no_mangle]
+pub extern "C" fn test_lace_encode_marked(
+    text: &[u32],
+    marks: &[u8],
+    label: &mut [u8],
+    answer: &mut [u64],
+)
+    ensures { λ _. ⌜ now (label .exit) ≡ bufferAfter (laceEncodeMarkedOutcome isHostLabel (length (now (label .entry))) (now (text .entry)) (now (marks .entry))) (laceLabelOf (now (text .entry))) (now (label .entry)) ⌝ }
+    ensures { λ _. ⌜ now (answer .exit) ≡ answerAfter (numbersOf (laceEncodeMarkedOutcome isHostLabel (length (now (label .entry))) (now (text .entry)) (now (marks .entry)))) (now (answer .entry)) ⌝ }
+{
+    answers::store_bytes(lace::encode_marked(text, marks, label), answer);
+}
+
+// Exports `lace::decode_marked`.
+#[no_mangle]
+pub extern "C" fn test_lace_decode_marked(
+    label: &[u8],
+    text: &mut [u32],
+    marks: &mut [u8],
+    answer: &mut [u64],
+)
+    ensures { λ _. ⌜ now (text .exit) ≡ bufferAfter (laceDecodeMarkedOutcome isHostLabel (length (now (text .entry))) (length (now (marks .entry))) (now (label .entry))) (laceTextOf (now (label .entry))) (now (text .entry)) ⌝ }
+    ensures { λ _. ⌜ now (marks .exit) ≡ bufferAfter (laceDecodeMarkedOutcome isHostLabel (length (now (text .entry))) (length (now (marks .entry))) (now (label .entry))) (laceMarksOf (now (label .entry))) (now (marks .entry)) ⌝ }
+    ensures { λ _. ⌜ now (answer .exit) ≡ answerAfter (numbersOf (laceDecodeMarkedOutcome isHostLabel (length (now (text .entry))) (length (now (marks .entry))) (now (label .entry)))) (now (answer .entry)) ⌝ }
+{
+    answers::store_points(lace::decode_marked(label, text, marks), answer);
 }
 
 // Exports `brace::encode`.

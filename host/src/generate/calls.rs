@@ -4,14 +4,16 @@
 
 use super::chunks::{self, Chunks};
 use super::lists::{self, List};
+use super::marks::{self, MarkedText};
 use super::{labels, pairs, short_tables, tables, texts, Source};
 use crate::scheme::Scheme;
 
-/// A call: what is given, and the lengths of the buffer and of the answer row.
+/// A call: what is given, and the lengths of the buffer, or of each of two, and of the
+/// answer row.
 #[derive(Clone, Debug)]
-pub struct Call<G> {
+pub struct Call<G, C = usize> {
     pub given: G,
-    pub capacity: usize,
+    pub capacity: C,
     pub answer: usize,
 }
 
@@ -33,12 +35,12 @@ fn answer_length(source: &mut Source) -> usize {
 }
 
 /// A call on one row and a number, or what stands in its place.
-fn call<T, N>(
+fn call<T, N, C>(
     source: &mut Source,
     elements: Vec<T>,
     number: N,
-    capacity: usize,
-) -> Call<Row<T, N>> {
+    capacity: C,
+) -> Call<Row<T, N>, C> {
     Call { given: Row { elements, number }, capacity, answer: answer_length(source) }
 }
 
@@ -138,6 +140,40 @@ pub fn lace_decode(source: &mut Source) -> Call<Row<u8>> {
 /// Decoding a BRACE label.
 pub fn brace_decode(source: &mut Source) -> Call<Row<u8>> {
     decode(source, Scheme::Brace)
+}
+
+/// Encoding a text with marks under a scheme.
+fn encode_marked(source: &mut Source, scheme: Scheme) -> Call<MarkedText> {
+    let given = marks::marked_text(source, scheme);
+    let capacity = capacity_around(source, 63);
+    Call { given, capacity, answer: answer_length(source) }
+}
+
+/// Encoding a text with marks under AltDUDE.
+pub fn altdude_encode_marked(source: &mut Source) -> Call<MarkedText> {
+    encode_marked(source, Scheme::AltDude)
+}
+
+/// Encoding a text with marks under LACE.
+pub fn lace_encode_marked(source: &mut Source) -> Call<MarkedText> {
+    encode_marked(source, Scheme::Lace)
+}
+
+/// Decoding a label of a scheme to a text and its marks.
+fn decode_marked(source: &mut Source, scheme: Scheme) -> Call<Row<u8>, [usize; 2]> {
+    let label = marks::marked_label(source, scheme);
+    let capacities = [capacity_around(source, 63), capacity_around(source, 63)];
+    call(source, label, 0, capacities)
+}
+
+/// Decoding an AltDUDE label to a text and its marks.
+pub fn altdude_decode_marked(source: &mut Source) -> Call<Row<u8>, [usize; 2]> {
+    decode_marked(source, Scheme::AltDude)
+}
+
+/// Decoding a LACE label to a text and its marks.
+pub fn lace_decode_marked(source: &mut Source) -> Call<Row<u8>, [usize; 2]> {
+    decode_marked(source, Scheme::Lace)
 }
 
 /// Reading a table in which a scheme may be held, which fills no buffer.

@@ -4,6 +4,7 @@ pub mod calls;
 pub mod chunks;
 pub mod labels;
 pub mod lists;
+pub mod marks;
 pub mod pairs;
 pub mod short_tables;
 pub mod tables;

@@ -1,4 +1,4 @@
--- `answer_number` meets its contract: a count of at most 252, or an error's number, at most 14.
+-- `answer_number` meets its contract: a count of at most 252, or an error's number, at most 15.
 use native.Mathlib.Omega.{arith}
 use borrow.Author.Needs.{needs}
 use Rattle.basis.specs.Outcome.{countOf, bytesOutcome}

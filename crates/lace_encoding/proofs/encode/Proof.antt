@@ -1,24 +1,14 @@
--- `encode` meets its contract: each test answers in its turn, and what passes them is handed on. The converter is done with a text of at most 34 points.
-use mathlib.Core.Path.{ap, _∙_}
+-- `encode` meets its contract: what the first tests refuse is refused, and what passes them is written.
+use mathlib.Core.Path.{refl, ap}
 use native.Mathlib.Omega.{arith}
 use borrow.Author.Needs.{needs}
 use Rattle.basis.specs.Outcome.{bytesOutcome}
-use Rattle.basis.proofs.Outcome.{stop-given, pass-given, stop-below, refusal-leaves, handed-leaves}
+use Rattle.basis.proofs.Outcome.{refusal-leaves, handed-leaves}
 use Rattle.ascii.specs.Ldh.{isHostLabel}
-use Rattle.ascii.proofs.text_is_host_label.Reads as text-is-host-label-reads
-use Rattle.utf16.specs.Answer.{unitsOutcome}
 use Rattle.labels.proofs.FirstTests.{check-stops, check-passes, text-checked}
-use Rattle.lace_encoding.specs.Answer.{encodeOutcome}
-use Rattle.utf16.proofs.Converted.{Converted, converts, not-refused, units-fit, units-long, units-are, units-some}
-use Rattle.lace_encoding.proofs.EncodeLaws.{by-units, label-is, text-long}
+use Rattle.lace_encoding.specs.Answer.{labelOutcome, encodeOutcome}
 use Rattle.lace_encoding.proofs.encode.Statement.{statement}
 use Rattle.lace_encoding.proofs.encode.Tie as tie
-use Rattle.lace_encoding.proofs.encode.Reads as reads
-use Rattle.lace_encoding.proofs.encode.Lts as lts
-use Rattle.basis.proofs.bytes_error.Reads as bytes-error-reads
-use Rattle.labels.proofs.check_text.Reads as check-text-reads
-use Rattle.utf16.proofs.to_units.Reads as to-units-reads
-use Rattle.lace_encoding.proofs.encoding.encode_units.Reads as encode-units-reads
 
 returns : tie.Need-returns
 unfolding bytesOutcome encodeOutcome
@@ -26,71 +16,21 @@ returns c =
     let k = c .before .before in
     refusal-leaves (encodeOutcome isHostLabel _ _) _ _ _ _ _ (ap bytesOutcome (c .bytes-error .ensures)) (check-stops _ _ (k .before .before .check-text .ensures) _ _ _ (k .check .given .1))
 
+encode-checked-requires : tie.Need-encode-checked-requires
+encode-checked-requires c κs =
+    let p = c .before in
+    let checked = text-checked _ (p .enum-told .given .1) _ _ (p .before .before .check-text .ensures) in
+    (checked .points, omega (arith, checked .some), checked .room)
+
 returns-2 : tie.Need-returns-2
-unfolding bytesOutcome encodeOutcome
+unfolding encodeOutcome
 returns-2 c =
-    let h = c .before .before in
-    let p = h .before in
-    refusal-leaves (encodeOutcome isHostLabel _ _) _ _ _ 6 0 (ap bytesOutcome (c .bytes-error2 .ensures))
-    (check-passes _ _ (p .before .before .check-text .ensures) _ (p .enum-told .given .1) ∙ stop-given 6 0 _ _ _ (h .text-is-host-label .ensures) (c .before .if1 .taken))
-
-returns-3 : tie.Need-returns-3
-unfolding bytesOutcome encodeOutcome
-returns-3 c =
-    let h = c .before .before .before in
-    let p = h .before in
-    refusal-leaves (encodeOutcome isHostLabel _ _) _ _ _ 3 0 (ap bytesOutcome (c .bytes-error3 .ensures))
-    (check-passes _ _ (p .before .before .check-text .ensures) _ (p .enum-told .given .1) ∙ pass-given 6 0 _ _ _ (h .text-is-host-label .ensures) (c .before .before .if1 .left)
-    ∙ stop-below 3 0 _ 63 _ (text-long (p .before .before .before .before .before .args .text .now) (omega (arith, c .before .if2 .taken))))
-
--- after the call of the converter
-converted : (u : lts.After-to-units (check-text-reads.Asked, check-text-reads.Learnt, bytes-error-reads.Asked, bytes-error-reads.Learnt, text-is-host-label-reads.Asked, text-is-host-label-reads.Learnt, to-units-reads.Asked, to-units-reads.Learnt, encode-units-reads.Asked, encode-units-reads.Learnt) reads.Pre reads.Post)
-    → Converted (u .before .before .before .before .before .before .before .before .before .before .args .text .now) (unitsOutcome (u .to-units .result)) (u .to-units .last .1 .1 .0)
-converted u =
-    let f = u .before .before in
-    let p = f .before .before .before in
-    let checked = text-checked _ (p .enum-told .given .1) _ _ (p .before .before .check-text .ensures) in
-    converts _ (checked .points) _ _ (u .to-units .ensures .0) (omega (arith, f .if2 .left)) _ _ (u .to-units .ensures .1)
-
-array-share-prefix-units : tie.Need-array-share-prefix-units
-unfolding unitsOutcome
-array-share-prefix-units c = units-fit (converted (c .before .before .before .before)) (ap unitsOutcome (c .before .answer2 .given .1))
-
-slice-aggregate-encode-units : tie.Need-slice-aggregate-encode-units
-unfolding unitsOutcome
-slice-aggregate-encode-units c = units-long (converted (c .before .before .before .before .before)) (ap unitsOutcome (c .before .before .answer2 .given .1))
-
-encode-units-requires : tie.Need-encode-units-requires
-unfolding unitsOutcome
-encode-units-requires c κs =
-    let u = c .before .before .before .before .before .before in
-    let p = u .before .before .before .before .before in
-    let checked = text-checked _ (p .enum-told .given .1) _ _ (p .before .before .check-text .ensures) in
-    (units-some (converted u) (ap unitsOutcome (c .before .before .before .answer2 .given .1)) (checked .some), checked .room)
-
-returns-4 : tie.Need-returns-4
-unfolding unitsOutcome
-returns-4 c = absurd (not-refused (converted (c .before .before .before .before .before)) (ap unitsOutcome (c .before .before .answer .given .1)))
-
-returns-5 : tie.Need-returns-5
-unfolding unitsOutcome encodeOutcome
-returns-5 c =
-    let a = c .before .before .before .before .before .before in
-    let u = a .before .before .before in
-    let f = u .before .before in
-    let h = f .before .before in
-    let p = h .before in
-    let us = units-are (converted u) (ap unitsOutcome (a .answer2 .given .1)) in
-    handed-leaves (encodeOutcome isHostLabel _ _) _ _ _ _ _ _
-    (check-passes _ _ (p .before .before .check-text .ensures) _ (p .enum-told .given .1) ∙ pass-given _ _ _ _ _ (h .text-is-host-label .ensures) (f .before .if1 .left)
-    ∙ by-units _ _ us)
-    (label-is _ _ us) (c .before .before .encode-units .ensures)
+    let e = c .before .before in
+    let p = e .before .before in
+    handed-leaves (encodeOutcome isHostLabel _ _) (labelOutcome isHostLabel _) _ _ _ _ _ (check-passes _ _ (p .before .before .check-text .ensures) _ (p .enum-told .given .1)) refl (e .encode-checked .ensures)
 
 pub encode-spec : {M : Type 1} → statement M
 encode-spec =
     tie.close
-    (tie.spec (λ c κs. search needs) (λ c. search needs) (λ c κs. search needs) returns
-    (λ c. search needs) (λ c κs. search needs) (λ c κs. search needs) returns-2
-    (λ c κs. search needs) returns-3 (λ c. search needs) (λ c κs. search needs) (λ c. search needs)
-    (λ c κs. search needs) (λ c. search needs) array-share-prefix-units slice-aggregate-encode-units
-    encode-units-requires returns-4 (λ c. search needs) returns-5)
+    (tie.spec (λ c κs. search needs) (λ c. search needs) (λ c κs. search needs) returns (λ c. search needs)
+    encode-checked-requires (λ c. search needs) returns-2)
