@@ -4,8 +4,7 @@ use mathlib.Core.Path.{_≡_, ap, _∙_}
 use mathlib.Core.Bool.{Bool}
 use mathlib.Core.List.{List}
 use Rattle.ascii.specs.Case.{isCapital}
-use Rattle.alphabet.specs.Alphabet.{valueOf, lookUp}
-use Rattle.alphabet.specs.Internal.{withCase}
+use Rattle.alphabet.specs.Alphabet.{valueOf, withCase, lookUp}
 use Rattle.alphabet.specs.declared.Character.{Character}
 
 module _ (alphabet : List ℕ) (byte : ℕ) where

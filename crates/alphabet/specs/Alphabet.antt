@@ -35,9 +35,13 @@ characterOf alphabet quintet = at alphabet quintet
 unfoldable pub valueOf : List ℕ → ℕ → ℕ
 valueOf alphabet byte = firstIn (eqb (small byte)) alphabet
 
+-- a value with the case of its byte
+abbrev pub withCase : (value byte : ℕ) → Character
+withCase value byte = record { value = value; capital = isCapital byte }
+
 -- a byte looked up: its value, and whether it is a capital
 abbrev pub lookUp : List ℕ → ℕ → Character
-lookUp alphabet byte = record { value = valueOf alphabet byte; capital = isCapital byte }
+lookUp alphabet byte = withCase (valueOf alphabet byte) byte
 
 -- the byte has a value
 unfoldable pub isCharacter : List ℕ → ℕ → Bool

@@ -1,9 +1,7 @@
--- What the look-up goes by: ranges of characters whose values count up, and the case of a byte.
+-- Ranges of characters whose values count up, as the look-up decides by them.
 use Prim.Native.Nat.{ℕ, _+_, _-_}
 use mathlib.Core.List.{List, [], _∷_}
 use Rattle.basis.specs.Tests.{pick, within}
-use Rattle.ascii.specs.Case.{isCapital}
-use Rattle.alphabet.specs.declared.Character.{Character}
 
 -- the characters from first to last, and the value of the first
 pub data Range : Type 0 where
@@ -25,7 +23,3 @@ laceLetters = range 97 122 0 ∷ []
 -- BRACE's letters: p to z, m and n, a to k
 abbrev pub braceLetters : List Range
 braceLetters = range 112 122 21 ∷ range 109 110 19 ∷ range 97 107 8 ∷ []
-
--- a value with the case of its byte
-abbrev pub withCase : (value byte : ℕ) → Character
-withCase value byte = record { value = value; capital = isCapital byte }

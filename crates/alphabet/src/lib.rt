@@ -3,8 +3,8 @@
 ghost use Prim.Native.Nat.{_+_, _≤_};
 ghost use mathlib.Core.Path.{_≡_};
 ghost use mathlib.Core.List.{[], _∷_};
-ghost use Rattle.alphabet.specs.Alphabet.{altdude, lace, brace, characterOf, valueOf, lookUp};
-ghost use Rattle.alphabet.specs.Internal.{range, valueBy, withCase, altdudeLetters, laceLetters, braceLetters};
+ghost use Rattle.alphabet.specs.Alphabet.{altdude, lace, brace, characterOf, valueOf, withCase, lookUp};
+ghost use Rattle.alphabet.specs.Internal.{range, valueBy, altdudeLetters, laceLetters, braceLetters};
 
 const ALTDUDE: [u8; 32] = *b"abcdefghijkmnpqrstuvwxyz23456789";
 

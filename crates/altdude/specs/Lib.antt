@@ -1,4 +1,4 @@
--- AltDUDE: symbols, the encoding, decoding, marks, and what both functions answer.
+-- AltDUDE: symbols, the encoding, decoding, marks, and what the functions answer.
 pub mod Symbols
 pub mod Encoding
 pub mod Decoding

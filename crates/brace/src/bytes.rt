@@ -6,25 +6,12 @@ ghost use lib.ListN.{length, drop};
 ghost use Rattle.alphabet.specs.Alphabet.{brace};
 ghost use Rattle.copying.specs.Symbols.{capital, byteOf, bytesOf};
 
-// The capital form of a to z, any other byte itself.
-fn capital_form(byte: u8) -> u8
-    ensures { λ r. ⌜ r ≡ capital byte ⌝ }
-{
-    if byte < 97 {
-        return byte;
-    }
-    if 122 < byte {
-        return byte;
-    }
-    byte - 32
-}
-
 // The byte that is written for a symbol.
 fn byte_of(symbol: u8) -> u8
     ensures { λ r. ⌜ r ≡ byteOf brace capital symbol ⌝ }
 {
     if symbol < 32 {
-        return capital_form(alphabet::brace_character(symbol));
+        return ascii::capital_form(alphabet::brace_character(symbol));
     }
     symbol
 }

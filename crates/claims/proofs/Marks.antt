@@ -15,7 +15,7 @@ use Rattle.basis.proofs.Codec.{Faithful}
 use Rattle.basis.proofs.Codec as codecs
 use Rattle.ascii.specs.Case.{SameButCase}
 use Rattle.labels.specs.MarkedCodec.{MarkedCodec, WritableWith}
-use Rattle.labels.proofs.MarkTests.{settle-room, room-pass}
+use Rattle.labels.proofs.MarkTests.{settle-room, room-pass, bad-mark}
 use Rattle.labels.proofs.MarkFacts.{MarkFacts}
 use Rattle.altdude.specs.Symbols.{byteOf}
 use Rattle.altdude.specs.Encoding.{itemOf, rememberedAfter, symbolsFrom, labelOf}
@@ -121,5 +121,6 @@ unfolding labelOf
 the-marks = record {
   ofAltdude = marks-of altdude.markedCodec altdude-faithful altdude-marks (λ t l. Iff·rfl);
   ofLace = marks-of lace.markedCodec lace-faithful lace-marks (λ t l. Iff·rfl);
+  badMark = bad-mark;
   asDrafted = λ t marks. drafted 96 marks t;
 }

@@ -2,8 +2,8 @@
 -- the contracts cite, in the specs/Marked.antt of altdude_facts and lace_facts.
 use Prim.Native.Nat.{ℕ, _/_, _%_, _≤_, _<_}
 use mathlib.Core.Path.{_≡_}
-use mathlib.Core.Bool.{true}
-use mathlib.Core.Logic.{_↔_}
+use mathlib.Core.Bool.{Bool, true, false}
+use mathlib.Core.Logic.{_↔_, _⊎_}
 use mathlib.Core.List.{List, [], _∷_, _++_, map}
 use lib.Bits.{bitXor}
 use lib.Dec.{eqb}
@@ -80,8 +80,11 @@ unfoldable pub draftedFrom : (remembered : ℕ) (marks text : List ℕ) → List
 draftedFrom remembered marks [] = []
 draftedFrom remembered marks (p ∷ t) = draftedItem remembered (at marks 0) p (draftedFrom (rememberedAfter remembered p) (drop 1 marks) t)
 
--- marks of AltDUDE and of LACE; and AltDUDE's label with marks is that of the draft, for all lists of numbers
+-- marks of AltDUDE and of LACE; a mark may not be on a point exactly if it is neither 0 nor 1, is 1 on a hyphen, or is not 0 where the
+-- scheme keeps no marks; and AltDUDE's label with marks is that of the draft, for all lists of numbers
 pub record Marks : Type 0 where
   pub ofAltdude : MarksOf altdude.markedCodec
   pub ofLace : MarksOf lace.markedCodec
+  pub badMark : (keeps : Bool) (point mark : ℕ)
+      → (mayMark keeps point mark ≡ false) ↔ (((mark ≡ 0 → ⊥) × (mark ≡ 1 → ⊥)) ⊎ (((mark ≡ 1) × (point ≡ 45)) ⊎ ((keeps ≡ false) × (mark ≡ 0 → ⊥))))
   pub asDrafted : (t marks : List ℕ) → altdude.markedCodec .labelWith marks t ≡ draftedFrom 96 marks t

@@ -1,19 +1,16 @@
 -- A label as a row of symbols: below 32 a quintet, coded as its character; else a byte, copied as it
 -- is. The alphabet, and the form in which its characters are written, are parameters.
-use Prim.Native.Nat.{ℕ, zero, suc, _+_, _-_, _*_, _/_, _%_, _^_, _<_}
+use Prim.Native.Nat.{ℕ, zero, suc, _+_, _*_, _/_, _%_, _^_, _<_}
 use mathlib.Core.Path.{_≡_}
 use mathlib.Core.Bool.{Bool, true, false}
 use mathlib.Core.List.{List, [], _∷_, map}
 use lib.Dec.{eqb, ltb}
 use lib.ListN.{length}
-use Rattle.basis.specs.Tests.{pick, both, within, every}
+use Rattle.basis.specs.Tests.{pick, both, every}
 use Rattle.basis.specs.Rows.{at}
 use Rattle.ascii.specs.Case.{small, SameLetter}
+unfoldable pub use Rattle.ascii.specs.Case.{capital}
 use Rattle.alphabet.specs.Alphabet.{characterOf, valueOf, isAlphabet}
-
--- the capital form of a small letter, any other byte itself
-unfoldable pub capital : ℕ → ℕ
-capital b = pick (within 97 122 b) (b - 32) b
 
 -- the byte that is written for a symbol: a quintet's character in its form, a copied byte itself
 unfoldable pub byteOf : (alphabet : List ℕ) (form : ℕ → ℕ) → ℕ → ℕ

@@ -7,9 +7,10 @@ use mathlib.Core.List.{List, _∷_}
 use lib.Dec.{eqb}
 use lib.ListN.{length}
 use lib.Seq.{ext-getD}
-use borrow.Author.Tests.{eqb-true, eqb-false, eq-eqb, not-true}
+use borrow.Author.Tests.{eqb-true, eqb-false, eq-eqb, ne-eqb, not-true, not-false}
 use native.Mathlib.Nat.{le-of-eq}
 use native.Mathlib.Omega.{arith}
+use Rattle.basis.specs.Tests.{both}
 use Rattle.basis.specs.Rows.{at}
 use Rattle.basis.specs.Outcome.{Outcome}
 use Rattle.basis.specs.Causes.{Cause, whole, NoCause, Settles}
@@ -42,6 +43,27 @@ mark-is keeps point mark e =
     let k = rw z at e in
     let o = both-right _ _ k in
     inr (both-left _ _ k, eqb-true mark 1 (both-left _ _ o), eqb-false point 45 (not-true _ (both-right _ _ o))))
+
+-- which marks may not be on a point, in the request's words
+pub bad-mark : (keeps : Bool) (point mark : ℕ)
+    → (mayMark keeps point mark ≡ false) ↔ (((mark ≡ 0 → ⊥) × (mark ≡ 1 → ⊥)) ⊎ (((mark ≡ 1) × (point ≡ 45)) ⊎ ((keeps ≡ false) × (mark ≡ 0 → ⊥))))
+unfolding mayMark both
+bad-mark keeps point mark =
+    cases (eqb mark 0)
+    (λ z. let e = eqb-true mark 0 z in (
+      λ f. absurd (true-not-false (rw z) f),
+      λ s. absurd (⊎-elim (λ a. a .0 e) (λ b. ⊎-elim (λ a. omega (arith, e, a .0)) (λ a. a .1 e) b) s),
+    ))
+    (λ z. let n = eqb-false mark 0 z in (
+      λ f. cases keeps
+          (λ k. cases (eqb mark 1)
+          (λ o. inr (inl (eqb-true mark 1 o, eqb-true point 45 (not-false _ (rw (z, k, o) at f)))))
+          (λ o. inl (n, eqb-false mark 1 o)))
+          (λ k. inr (inr (k, n))),
+      λ s. ⊎-elim
+          (λ a. rw (z, ne-eqb mark 1 (a .1)) (cases keeps (λ k. rw k) (λ k. rw k)))
+          (λ b. ⊎-elim (λ a. rw (z, eq-eqb mark 1 (a .0), eq-eqb point 45 (a .1)) (cases keeps (λ k. rw k) (λ k. rw k))) (λ a. rw (z, a .0)) b) s,
+    ))
 
 -- there is one mark for each point, which may be on it
 pub record LawfulMarks (keeps : Bool) (t marks : List ℕ) : Type 0 where

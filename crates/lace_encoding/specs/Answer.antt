@@ -20,6 +20,6 @@ labelOutcome reserved t =
 unfoldable pub encodeOutcome : (List ℕ → Bool) → ℕ → List ℕ → Outcome
 encodeOutcome reserved capacity t = textTests capacity t (labelOutcome reserved t)
 
--- encoding a text with marks, which are all 0: 1, 2, 4, 15, 6, 3
+-- encoding a text with marks, which must all be 0: 1, 2, 4, 15, 6, 3
 unfoldable pub encodeMarkedOutcome : (List ℕ → Bool) → ℕ → (text marks : List ℕ) → Outcome
 encodeMarkedOutcome reserved capacity t marks = textTests capacity t (marksTests false t marks (labelOutcome reserved t))

@@ -55,7 +55,7 @@ pub fn encode(text: &[u32], label: &mut [u8]) -> BytesAnswer
     encode_checked(text, label)
 }
 
-// Writes the label of a text with marks, which are all 0.
+// Writes the label of a text with marks, which must all be 0.
 pub fn encode_marked(text: &[u32], marks: &[u8], label: &mut [u8]) -> BytesAnswer
     ensures { λ r. ⌜ bytesOutcome r ≡ encodeMarkedOutcome isHostLabel (length (now (label .entry))) (now (text .entry)) (now (marks .entry)) ⌝ }
     ensures { λ _. ⌜ now (label .exit) ≡ bufferAfter (encodeMarkedOutcome isHostLabel (length (now (label .entry))) (now (text .entry)) (now (marks .entry))) (labelOf (now (text .entry))) (now (label .entry)) ⌝ }

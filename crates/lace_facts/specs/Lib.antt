@@ -1,4 +1,4 @@
--- LACE's rules of form, the causes of its refusals, and its codec.
+-- LACE's rules of form, the causes of its refusals, and its codec, with marks and without.
 pub mod WellFormed
 pub mod Causes
 pub mod Codec

@@ -1,8 +1,7 @@
 -- `altdude_look_up` meets its contract: the value is that of the byte, and so is the case.
 use borrow.Author.Needs.{needs}
 use mathlib.Core.Path.{_≡_}
-use Rattle.alphabet.specs.Alphabet.{altdude, valueOf}
-use Rattle.alphabet.specs.Internal.{withCase}
+use Rattle.alphabet.specs.Alphabet.{altdude, valueOf, withCase}
 use Rattle.alphabet.proofs.LookUp.{looked-up}
 use Rattle.alphabet.proofs.altdude_look_up.Statement.{statement}
 use Rattle.alphabet.proofs.altdude_look_up.Tie as tie

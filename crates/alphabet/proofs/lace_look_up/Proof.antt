@@ -1,8 +1,7 @@
 -- `lace_look_up` meets its contract: the value is that of the byte, and so is the case.
 use borrow.Author.Needs.{needs}
 use mathlib.Core.Path.{_≡_}
-use Rattle.alphabet.specs.Alphabet.{lace, valueOf}
-use Rattle.alphabet.specs.Internal.{withCase}
+use Rattle.alphabet.specs.Alphabet.{lace, valueOf, withCase}
 use Rattle.alphabet.proofs.LookUp.{looked-up}
 use Rattle.alphabet.proofs.lace_look_up.Statement.{statement}
 use Rattle.alphabet.proofs.lace_look_up.Tie as tie
