@@ -80,7 +80,7 @@ int main(void)
             }
         }
     }
-    if (most[WRITE] > 1328 || most[READ] > 3896) {
+    if (most[WRITE] > 1328 || most[READ] > 4152) {
         fprintf(stderr, "stack: %zu bytes to write, %zu to read\n", most[WRITE], most[READ]);
         return 1;
     }

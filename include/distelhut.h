@@ -66,7 +66,7 @@ extern "C" {
  *
  * The functions keep no state, and may be called from any thread at any time. They take no memory from a heap. The archive
  * has 16 KB of code and constants at most and needs two symbols, memcpy and memset. A call needs 1328 bytes of stack to write
- * and 3896 to read, and what these two need: the most in measured calls, and not proved.
+ * and 4152 to read, and what these two need: the most in measured calls, and not proved.
  *
  * The caller owes the following, and nothing is promised otherwise:
  *   - both pointers are valid for as many bytes as their lengths say: the first to read, the second to read and write;

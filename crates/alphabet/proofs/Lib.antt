@@ -1,4 +1,5 @@
 -- The laws of alphabets.
 pub mod Inverse
 pub mod LookUp
+pub mod Tables
 pub mod Ranges

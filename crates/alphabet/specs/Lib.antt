@@ -1,3 +1,2 @@
--- The three alphabets, and their letters as ranges.
+-- The three alphabets, and a byte looked up.
 pub mod Alphabet
-pub mod Internal

@@ -1,10 +1,10 @@
-// The three alphabets as tables indexed by quintet, and the look-up of a byte: its value, whatever its case, by ranges, and whether it
-// is a capital.
-ghost use Prim.Native.Nat.{_+_, _≤_};
+// The three alphabets as tables indexed by quintet, and the look-up of a byte: its value, whatever its case, by tables indexed by the
+// byte, and whether it is a capital.
+mod altdude_values;
+mod lace_values;
+
 ghost use mathlib.Core.Path.{_≡_};
-ghost use mathlib.Core.List.{[], _∷_};
 ghost use Rattle.alphabet.specs.Alphabet.{altdude, lace, brace, characterOf, valueOf, withCase, lookUp};
-ghost use Rattle.alphabet.specs.Internal.{range, valueBy, altdudeLetters, laceLetters, braceLetters};
 
 const ALTDUDE: [u8; 32] = *b"abcdefghijkmnpqrstuvwxyz23456789";
 
@@ -18,90 +18,29 @@ pub struct Character {
     pub capital: bool,
 }
 
-// The value of a byte from first to last, counted up from the value of the first, and 32 for any other.
-fn in_range(byte: u8, first: u8, last: u8, value: u8) -> u8
-    requires { ⌜ value + last ≤ first + 255 ⌝ }
-    ensures { λ r. ⌜ r ≡ valueBy (range first last value ∷ []) byte ⌝ }
-{
-    if byte < first {
-        return 32;
-    }
-    if last < byte {
-        return 32;
-    }
-    value + (byte - first)
-}
-
-// The value of a small letter in AltDUDE's alphabet, which leaves out l and o, and 32 for any other byte.
-fn altdude_letter(byte: u8) -> u8
-    ensures { λ r. ⌜ r ≡ valueBy altdudeLetters byte ⌝ }
-{
-    if b'o' < byte {
-        return in_range(byte, b'p', b'z', 13);
-    }
-    if b'l' < byte {
-        return in_range(byte, b'm', b'n', 11);
-    }
-    in_range(byte, b'a', b'k', 0)
-}
-
 // The value of a byte in AltDUDE's alphabet, 32 where it has none.
 fn altdude_value(byte: u8) -> u8
     ensures { λ r. ⌜ r ≡ valueOf altdude byte ⌝ }
 {
-    if b'Z' < byte {
-        return altdude_letter(byte);
-    }
-    if byte < b'A' {
-        return in_range(byte, b'2', b'9', 24);
-    }
-    altdude_letter(byte + 32)
-}
-
-// The value of a small letter in LACE's alphabet, and 32 for any other byte.
-fn lace_letter(byte: u8) -> u8
-    ensures { λ r. ⌜ r ≡ valueBy laceLetters byte ⌝ }
-{
-    in_range(byte, b'a', b'z', 0)
+    altdude_values::VALUES[byte as usize]
 }
 
 // The value of a byte in LACE's alphabet, 32 where it has none.
 fn lace_value(byte: u8) -> u8
     ensures { λ r. ⌜ r ≡ valueOf lace byte ⌝ }
 {
-    if b'Z' < byte {
-        return lace_letter(byte);
-    }
-    if byte < b'A' {
-        return in_range(byte, b'2', b'7', 26);
-    }
-    lace_letter(byte + 32)
+    lace_values::VALUES[byte as usize]
 }
 
-// The value of a small letter in BRACE's alphabet, which leaves out l and o, and 32 for any other byte.
-fn brace_letter(byte: u8) -> u8
-    ensures { λ r. ⌜ r ≡ valueBy braceLetters byte ⌝ }
-{
-    if b'o' < byte {
-        return in_range(byte, b'p', b'z', 21);
-    }
-    if b'l' < byte {
-        return in_range(byte, b'm', b'n', 19);
-    }
-    in_range(byte, b'a', b'k', 8)
-}
-
-// The value of a byte in BRACE's alphabet, 32 where it has none.
+// The value of a byte in BRACE's alphabet, 32 where it has none: its characters are AltDUDE's, the digits first.
 fn brace_value(byte: u8) -> u8
     ensures { λ r. ⌜ r ≡ valueOf brace byte ⌝ }
 {
-    if b'Z' < byte {
-        return brace_letter(byte);
+    let value = altdude_value(byte);
+    if value == 32 {
+        return 32;
     }
-    if byte < b'A' {
-        return in_range(byte, b'2', b'9', 0);
-    }
-    brace_letter(byte + 32)
+    (value + 8) % 32
 }
 
 // A value with the case of its byte.
