@@ -6,7 +6,7 @@ use Rattle.basis.specs.Tests.{pick, both, within, firstBelow}
 use Rattle.basis.specs.Rows.{at, tabulate}
 use Rattle.basis.proofs.Lists.{at-tabulate}
 use Rattle.ascii.specs.Case.{isCapital, small}
-use Rattle.alphabet.specs.Alphabet.{altdude, lace, brace, valueOf, lookUp}
+use Rattle.alphabet.specs.Alphabet.{altdude, lace, brace, valueOf, withCase, lookUp}
 
 -- the characters from first to last, and the value of the first
 pub data Range : Type 0 where
@@ -31,21 +31,22 @@ braceRanges = range 50 57 0 ∷ range 112 122 21 ∷ range 109 110 19 ∷ range 
 abbrev Agree : List Range → List ℕ → Type 0
 Agree ranges alphabet = tabulate 256 (valueOf alphabet) ≡ tabulate 256 (λ byte. valueBy ranges (small byte))
 
--- then the look-up answers the value by the ranges, for every byte
+-- then the look-up's answer is the value by the ranges, with the case of the byte, for every byte
 same-by-ranges : (ranges : List Range) (alphabet : List ℕ) → Agree ranges alphabet → (byte : ℕ) → byte < 256
-    → lookUp alphabet byte .value ≡ valueBy ranges (small byte)
+    → lookUp alphabet byte ≡ withCase (valueBy ranges (small byte)) byte
 same-by-ranges ranges alphabet test byte h =
-    sym (at-tabulate 256 (valueOf alphabet) byte h) ∙ ap (λ (l : List ℕ). at l byte) test ∙ at-tabulate 256 (λ b. valueBy ranges (small b)) byte h
+    ap (λ (value : ℕ). withCase value byte)
+    (sym (at-tabulate 256 (valueOf alphabet) byte h) ∙ ap (λ (l : List ℕ). at l byte) test ∙ at-tabulate 256 (λ b. valueBy ranges (small b)) byte h)
 
 -- of the three alphabets
-pub altdude-as-before : (byte : ℕ) → byte < 256 → lookUp altdude byte .value ≡ valueBy altdudeRanges (small byte)
+pub altdude-as-before : (byte : ℕ) → byte < 256 → lookUp altdude byte ≡ withCase (valueBy altdudeRanges (small byte)) byte
 unfolding tabulate valueBy valueOf altdude small isCapital within both firstBelow
 altdude-as-before = same-by-ranges altdudeRanges altdude refl
 
-pub lace-as-before : (byte : ℕ) → byte < 256 → lookUp lace byte .value ≡ valueBy laceRanges (small byte)
+pub lace-as-before : (byte : ℕ) → byte < 256 → lookUp lace byte ≡ withCase (valueBy laceRanges (small byte)) byte
 unfolding tabulate valueBy valueOf lace small isCapital within both firstBelow
 lace-as-before = same-by-ranges laceRanges lace refl
 
-pub brace-as-before : (byte : ℕ) → byte < 256 → lookUp brace byte .value ≡ valueBy braceRanges (small byte)
+pub brace-as-before : (byte : ℕ) → byte < 256 → lookUp brace byte ≡ withCase (valueBy braceRanges (small byte)) byte
 unfolding tabulate valueBy valueOf brace small isCapital within both firstBelow
 brace-as-before = same-by-ranges braceRanges brace refl

@@ -1,5 +1,5 @@
--- The value of a byte by a table of 256 entries. One computed test holds any table to any alphabet; the value in BRACE's alphabet is
--- told by that in AltDUDE's.
+-- The value of a byte by a table of 256 entries. One computed test holds any table to any alphabet; the value in BRACE's alphabet
+-- follows from that in AltDUDE's.
 use Prim.Native.Nat.{ℕ, _+_, _%_, _<_}
 use mathlib.Core.Path.{_≡_, refl, sym, ap, _∙_}
 use mathlib.Core.List.{List}
@@ -20,23 +20,23 @@ pub table-value : (table alphabet : List ℕ) → TellsValues table alphabet →
 table-value table alphabet test byte h = ap (λ (l : List ℕ). at l byte) test ∙ at-tabulate 256 (valueOf alphabet) byte h
 
 -- the value in BRACE's alphabet, by that in AltDUDE's: 8 more, modulo 32, where there is one
-unfoldable pub turned : ℕ → ℕ
-turned value = pick (eqb value 32) 32 ((value + 8) % 32)
+unfoldable fromAltdude : ℕ → ℕ
+fromAltdude value = pick (eqb value 32) 32 ((value + 8) % 32)
 
-brace-turned : tabulate 256 (λ byte. turned (valueOf altdude byte)) ≡ tabulate 256 (valueOf brace)
-unfolding tabulate turned valueOf altdude brace small isCapital within both firstBelow
-brace-turned = refl
+brace-from-altdude : tabulate 256 (λ byte. fromAltdude (valueOf altdude byte)) ≡ tabulate 256 (valueOf brace)
+unfolding tabulate fromAltdude valueOf altdude brace small isCapital within both firstBelow
+brace-from-altdude = refl
 
 module _ (byte : ℕ) (h : byte < 256) (value : ℕ) (is : value ≡ valueOf altdude byte) where
-  turned-value : turned value ≡ valueOf brace byte
-  turned-value =
-      ap turned is ∙ sym (at-tabulate 256 (λ b. turned (valueOf altdude b)) byte h) ∙ ap (λ (l : List ℕ). at l byte) brace-turned
+  value-from-altdude : fromAltdude value ≡ valueOf brace byte
+  value-from-altdude =
+      ap fromAltdude is ∙ sym (at-tabulate 256 (λ b. fromAltdude (valueOf altdude b)) byte h) ∙ ap (λ (l : List ℕ). at l byte) brace-from-altdude
       ∙ at-tabulate 256 (valueOf brace) byte h
 
   pub brace-none : value ≡ 32 → 32 ≡ valueOf brace byte
-  unfolding turned
-  brace-none e = rw (eq-eqb value 32 e) at turned-value
+  unfolding fromAltdude
+  brace-none e = rw (eq-eqb value 32 e) at value-from-altdude
 
   pub brace-some : (value ≡ 32 → ⊥) → (value + 8) % 32 ≡ valueOf brace byte
-  unfolding turned
-  brace-some n = rw (ne-eqb value 32 n) at turned-value
+  unfolding fromAltdude
+  brace-some n = rw (ne-eqb value 32 n) at value-from-altdude
