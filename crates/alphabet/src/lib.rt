@@ -1,5 +1,7 @@
 // The three alphabets as tables indexed by quintet, and the look-up of a byte: its value, whatever its case, by tables indexed by the
 // byte, and whether it is a capital.
+#![tactic(auto)]
+
 mod altdude_values;
 mod lace_values;
 

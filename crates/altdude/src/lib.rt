@@ -1,4 +1,6 @@
 // AltDUDE: encoding a text as a label, and decoding a label, with marks and without.
+#![tactic(auto)]
+
 mod decoding;
 mod encoding;
 mod marking;

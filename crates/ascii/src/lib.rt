@@ -1,4 +1,6 @@
 // What labels are made of: letters and their case, LDH, hyphens at an edge, host labels, and a prefix.
+#![tactic(auto)]
+
 ghost use Rattle.std.specs.Prelude.{◌≡◌};
 ghost use Rattle.ascii.specs.Case.{is_capital, small, capital};
 ghost use Rattle.ascii.specs.Ldh.{is_ldh, is_all_ldh, has_edge_hyphen, is_host_label};

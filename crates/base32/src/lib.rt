@@ -1,4 +1,6 @@
 // Base32 on parts of a label.
+#![tactic(auto)]
+
 mod octets;
 pub mod outside;
 mod quintets;

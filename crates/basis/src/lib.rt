@@ -1,5 +1,7 @@
 // The numbered errors that every function answers with, and an answer in bytes. The shared definitions are in specs/, the laws
 // on them in proofs/.
+#![tactic(auto)]
+
 ghost use Rattle.std.specs.Prelude.{◌≡◌};
 ghost use Rattle.basis.specs.Outcome.{number_of, count_of, bytes_outcome};
 

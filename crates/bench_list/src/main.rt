@@ -1,4 +1,6 @@
 // Reads LACE labels from standard input, one a line, and prints for each its points or its refusal.
+#![tactic(auto)]
+
 mod answers;
 mod chunks;
 

@@ -1,4 +1,6 @@
 // BRACE: encoding a text as a label, and decoding a label.
+#![tactic(auto)]
+
 mod bytes;
 pub mod points;
 

@@ -1,4 +1,6 @@
 // Reading BRACE: the text of a label, in units.
+#![tactic(auto)]
+
 mod decoding;
 mod signature;
 

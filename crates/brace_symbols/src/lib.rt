@@ -1,4 +1,6 @@
 // The symbols of a text: those that its label is written with.
+#![tactic(auto)]
+
 mod encoding;
 mod quintets;
 mod signature;

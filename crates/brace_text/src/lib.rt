@@ -1,4 +1,6 @@
 // Reading the text of a label's body: the head, and the queue of bits from which codes are taken.
+#![tactic(auto)]
+
 ghost use Rattle.std.specs.Prelude.{◌+◌, ◌^◌, ◌≤◌, ◌<◌, ◌≡◌, [], ◌++◌, length, drop};
 ghost use Rattle.std.proofs.lemmas.List.Edits.{sets};
 ghost use Rattle.basis.specs.Outcome.{buffer_after};

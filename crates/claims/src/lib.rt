@@ -1,1 +1,2 @@
 // The claims: theorems only, in proofs/, over the definitions that the contracts cite.
+#![tactic(auto)]

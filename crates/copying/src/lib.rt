@@ -1,4 +1,6 @@
 // What schemes share that copy letters, digits and hyphens between coded characters: the mode of reading, which hyphens change.
+#![tactic(auto)]
+
 ghost use Rattle.std.specs.Prelude.{◌≡◌};
 ghost use Rattle.copying.specs.Modes.{after_hyphen, after_other, is_second, is_copied, next_mode, copying_after};
 

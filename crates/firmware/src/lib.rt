@@ -1,4 +1,6 @@
 // The C interface: two exported functions on a scheme number and byte slices, answering one number.
+#![tactic(auto)]
+
 mod read;
 mod write;
 

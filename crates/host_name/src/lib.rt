@@ -1,4 +1,6 @@
 // Host names: labels with dots between, each a host label, which is its own text, or LACE.
+#![tactic(auto)]
+
 mod dots;
 mod reading;
 mod writing;

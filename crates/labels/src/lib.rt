@@ -1,4 +1,6 @@
 // The first tests of every scheme: on a text that is to be written, with marks or without, and on a label that is to be read.
+#![tactic(auto)]
+
 ghost use Rattle.std.specs.Prelude.{◌≡◌, length, eqb, ltb};
 ghost use Rattle.basis.specs.Outcome.{Outcome, refused_if, and_then};
 ghost use Rattle.labels.specs.Tests.{text_tests, label_tests};

@@ -1,4 +1,6 @@
 // Reading LACE: the text of a label, with marks and without.
+#![tactic(auto)]
+
 pub mod decoding;
 mod marking;
 

@@ -1,4 +1,6 @@
 // Writing LACE: the label of a text, with marks and without.
+#![tactic(auto)]
+
 mod encoding;
 mod prefix;
 

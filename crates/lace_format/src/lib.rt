@@ -1,4 +1,6 @@
 // What writing and reading LACE share: the prefix lq--, and how many runs units have.
+#![tactic(auto)]
+
 ghost use Rattle.std.specs.Prelude.{◌≡◌, ◌≤◌, length};
 ghost use Rattle.ascii.specs.Prefix.{has_prefix};
 ghost use Rattle.lace_format.specs.Prefix.{prefix};

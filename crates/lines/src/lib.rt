@@ -1,4 +1,6 @@
 // Splitting input that comes in chunks into lines, in a buffer that holds the first bytes of a line.
+#![tactic(auto)]
+
 ghost use Rattle.std.specs.Prelude.{◌≡◌, ◌++◌, ◌≤◌, min, length, take, drop};
 ghost use Rattle.lines.specs.Step.{line_end, held_after, in_front, step_answer};
 

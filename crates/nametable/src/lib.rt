@@ -1,5 +1,7 @@
 // The name table (the paper's book of names): reading it, one entry of it by index, its header and an
 // entry by themselves, and writing it.
+#![tactic(auto)]
+
 mod entries;
 
 ghost use Rattle.std.specs.Prelude.{◌≡◌, length};

@@ -1,5 +1,7 @@
 // Prints what differs between the name tables in two files. The program's first argument names the
 // left table's file, its second the right one's.
+#![tactic(auto)]
+
 mod differences;
 
 // One byte more than the longest table of either form has, to know a longer one.

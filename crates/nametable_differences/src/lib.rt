@@ -1,4 +1,6 @@
 // What differs between two name tables of either form, as the lines of a report (02's sheet).
+#![tactic(auto)]
+
 mod entries;
 mod forms;
 mod lines;

@@ -1,4 +1,6 @@
 // The sizes of the name table's format, as `specs/Format.antt` names them, and a number that is stored in it.
+#![tactic(auto)]
+
 ghost use Rattle.std.specs.Prelude.{◌≡◌, ◌<◌};
 ghost use Rattle.nametable_format.specs.Format.{number_at};
 

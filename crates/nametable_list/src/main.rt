@@ -1,4 +1,6 @@
 // Lists a name table from standard input: a line for each entry, or one line with the refusal.
+#![tactic(auto)]
+
 mod listing;
 
 use libc::STDIN_FILENO;

@@ -1,5 +1,7 @@
 // The receiver of a name table that arrives in chunks: a state that the caller holds, changed in
 // place by each chunk. Asked when the table is over, it answers as reading the table at once.
+#![tactic(auto)]
+
 mod steps;
 
 ghost use Rattle.std.specs.Prelude.{◌≡◌};

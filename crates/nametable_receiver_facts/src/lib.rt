@@ -1,2 +1,3 @@
 // The causes of a receiver's refusals, and that it answers as reading the table at once. No code:
 // theorems on `nametable_receiver`.
+#![tactic(auto)]

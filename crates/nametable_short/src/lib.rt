@@ -1,5 +1,7 @@
 // The short form of the name table (02's new book): reading it, one entry of it by index, and moving
 // a table between this form and the long one, that of `nametable`.
+#![tactic(auto)]
+
 mod moves;
 
 ghost use Rattle.std.specs.Prelude.{◌≡◌, length};

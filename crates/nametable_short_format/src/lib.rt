@@ -1,5 +1,7 @@
 // The format of short tables: the kinds of short entries, where a short entry ends, and an entry of
 // one form stored as the entry of the other.
+#![tactic(auto)]
+
 ghost use Rattle.std.specs.Prelude.{◌≡◌, ◌+◌, ◌≤◌, length, drop};
 ghost use Rattle.basis.specs.Rows.{at};
 ghost use Rattle.scheme.specs.Naming.{number_of, own_number_names, kind_names, scheme_named};

@@ -1,5 +1,7 @@
 // Reading the short form of the name table (02's new book): a whole table, and one entry of it by
 // index.
+#![tactic(auto)]
+
 mod entries;
 
 ghost use Rattle.std.specs.Prelude.{◌≡◌, length};

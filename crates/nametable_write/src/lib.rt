@@ -1,4 +1,6 @@
 // Writing a name table from a list: all of it is judged before the first byte is stored.
+#![tactic(auto)]
+
 mod list;
 mod store;
 

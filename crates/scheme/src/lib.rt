@@ -1,4 +1,6 @@
 // The schemes: their numbers, kinds of entry and letters, the default, and encoding and decoding by scheme.
+#![tactic(auto)]
+
 ghost use Rattle.std.specs.Prelude.{◌≡◌, length};
 ghost use Rattle.basis.specs.Outcome.{bytes_outcome, buffer_after};
 ghost use Rattle.utf16.specs.Answer.{points_outcome};

@@ -1,6 +1,8 @@
 // Reading a descriptor or a named file, and printing. A call that a signal interrupts is made again. Any other failure to
 // open, read or write is reported on standard error and answered, so that a failed read is not taken for the end of input,
 // nor a failed write for a done one.
+#![tactic(auto)]
+
 mod calls;
 
 ghost use Rattle.std.specs.Prelude.{◌≡◌, ◌≤◌, length};

@@ -1,6 +1,8 @@
 // The converter, the schemes, host names, the name table in both forms, the receiver and the difference
 // report, exported to C for tests alone. In `answer` each stores five numbers, if it has five elements or more: code (0 when done), position,
 // count, and for an entry of a table reader number and scheme number.
+#![tactic(auto)]
+
 mod answers;
 mod receiving;
 

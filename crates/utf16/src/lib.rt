@@ -1,4 +1,6 @@
 // The conversions between points, UTF-16 units and bytes, with a type for each count.
+#![tactic(auto)]
+
 pub mod bytes;
 mod units;
 

@@ -1,0 +1,14 @@
+-- `is_capital` meets its contract: the three ranges of a byte, below A, past Z, and A to Z.
+use mathlib.Core.Path.{sym}
+use native.Mathlib.Omega.{arith}
+use Rattle.ascii.proofs.Case.{capital-inside, capital-below, capital-above}
+use Rattle.ascii.proofs.is_capital.Goals as goal
+
+pub returns-then-byte-lt65 : goal.returns-then-byte-lt65
+returns-then-byte-lt65 c = sym (capital-below c.args.byte (omega arith))
+
+pub returns-then-byte-gt90 : goal.returns-then-byte-gt90
+returns-then-byte-gt90 c = sym (capital-above c.args.byte (omega arith))
+
+pub returns : goal.returns
+returns c = sym (capital-inside c.args.byte (omega arith) (omega arith))
