@@ -1,4 +1,5 @@
 -- The laws on the shared definitions.
+pub mod Clauses
 pub mod Tests
 pub mod Scan
 pub mod Lists

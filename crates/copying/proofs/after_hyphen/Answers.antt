@@ -1,0 +1,19 @@
+-- `after_hyphen` meets its contract, mode by mode.
+use Rattle.copying.specs.Modes.{after_hyphen}
+use Rattle.copying.proofs.after_hyphen.Goals as goal
+
+pub returns-in-Coded : goal.returns-in-Coded
+unfolding after_hyphen
+returns-in-Coded c = rw c.in-Coded.is
+
+pub returns-in-CodedHyphen : goal.returns-in-CodedHyphen
+unfolding after_hyphen
+returns-in-CodedHyphen c = rw c.in-CodedHyphen.is
+
+pub returns-in-Copied : goal.returns-in-Copied
+unfolding after_hyphen
+returns-in-Copied c = rw c.in-Copied.is
+
+pub returns-in-CopiedHyphen : goal.returns-in-CopiedHyphen
+unfolding after_hyphen
+returns-in-CopiedHyphen c = rw c.in-CopiedHyphen.is

@@ -1,0 +1,19 @@
+-- `is_second` meets its contract, mode by mode.
+use Rattle.copying.specs.Modes.{is_second}
+use Rattle.copying.proofs.is_second.Goals as goal
+
+pub returns-in-Coded : goal.returns-in-Coded
+unfolding is_second
+returns-in-Coded c = rw c.in-Coded.is
+
+pub returns-in-CodedHyphen : goal.returns-in-CodedHyphen
+unfolding is_second
+returns-in-CodedHyphen c = rw c.in-CodedHyphen.is
+
+pub returns-in-Copied : goal.returns-in-Copied
+unfolding is_second
+returns-in-Copied c = rw c.in-Copied.is
+
+pub returns-in-CopiedHyphen : goal.returns-in-CopiedHyphen
+unfolding is_second
+returns-in-CopiedHyphen c = rw c.in-CopiedHyphen.is
