@@ -1,0 +1,18 @@
+-- The loop's invariant: the first i octets are before what the buffer held. Each turn stores one more.
+use Prim.Native.Nat.{◌-◌, ◌≤◌}
+use mathlib.Core.Path.{◌≡◌}
+use mathlib.Core.List.{◌++◌}
+use lib.ListN.{length, drop}
+use Rattle.basis.specs.Rows.{at, tabulate}
+use Rattle.alphabet.specs.Alphabet.{lace, values_of}
+use Rattle.base32.specs.Bits.{regroup}
+use Rattle.base32.proofs.octets.put_octets.Given as goal
+
+abbrev pub invariant-loop-i : goal.invariant-loop-i
+invariant-loop-i l =
+    (l.i ≤ l.n)
+    × (length l.octets ≡ length l.initial.octets)
+    × (l.octets ≡ tabulate l.i (regroup 5 8 (at (values_of lace l.characters))) ++ drop l.i l.initial.octets)
+
+abbrev pub decreases-loop-i : goal.decreases-loop-i
+decreases-loop-i l = l.n - l.i

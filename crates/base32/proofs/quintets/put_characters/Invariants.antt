@@ -1,0 +1,18 @@
+-- The loop's invariant: the first i characters are before what the buffer held. Each turn stores one more.
+use Prim.Native.Nat.{◌-◌, ◌≤◌}
+use mathlib.Core.Path.{◌≡◌}
+use mathlib.Core.List.{◌++◌}
+use lib.ListN.{length, drop}
+use Rattle.basis.specs.Rows.{at, tabulate}
+use Rattle.alphabet.specs.Alphabet.{lace, character_of}
+use Rattle.base32.specs.Bits.{regroup}
+use Rattle.base32.proofs.quintets.put_characters.Given as goal
+
+abbrev pub invariant-loop-i : goal.invariant-loop-i
+invariant-loop-i l =
+    (l.i ≤ l.n)
+    × (length l.characters ≡ length l.initial.characters)
+    × (l.characters ≡ tabulate l.i (λ k. character_of lace (regroup 8 5 (at l.octets) k)) ++ drop l.i l.initial.characters)
+
+abbrev pub decreases-loop-i : goal.decreases-loop-i
+decreases-loop-i l = l.n - l.i
