@@ -38,7 +38,7 @@ read-items m (group leading last ∷ items) g x =
     let point : is_point (bit_xor m (group_value leading last)) ≡ true = x.0 in
     let other : bit_xor m (group_value leading last) ≡ 45 → ⊥ = x.1 in
     read-leading 0 leading g.0.leading_high (λ e. g.0.no_leading_s)
-    (by_last (omega (arith, g.0.last_low)) point (ne_eqb _ _ other) (read-items _ items g.1 x.2))
+    (by_last (omega (arith, g.0.last_low)) point (ne_eqb _ _ other) (read-items (bit_xor m (group_value leading last)) items g.1 x.2))
 
 pub row-readable : (symbols : List ℕ) → RowOfItems symbols → is_readable 96 0 symbols ≡ true
 row-readable symbols row =

@@ -1,5 +1,5 @@
 -- Laws on marks in a label, over all lists of numbers but where a text or a label that may be read is asked for.
-use Prim.Native.Nat.{ℕ, zero, suc, ◌+◌, ◌-◌, ◌/◌, ◌%◌, ◌≤◌, ◌<◌}
+use Prim.Native.Nat.{ℕ, zero, suc, ◌+◌, ◌-◌, ◌*◌, ◌/◌, ◌%◌, ◌≤◌, ◌<◌}
 use mathlib.Core.Path.{◌≡◌, refl, sym, ap, ap₂, ◌∙◌}
 use mathlib.Core.Bool.{true, false, ◌||◌, or-false}
 use mathlib.Core.Logic.{inl, ⊎_elim}
@@ -116,13 +116,13 @@ lawful-from m v (b ∷ l) r =
     (λ low e.
     let q = sym (readable-low m v (symbol_of b) (map symbol_of l) low) ∙ r in
     rw (shows-last b l e, text-low m v (symbol_of b) (map symbol_of l) low)
-    (lawful-more true _ _ _ _ (may-show _ b (not-true _ (both_right _ _ (both_left _ _ q)))) (lawful-from _ 0 l (both_right _ _ q))))
+    (lawful-more true _ _ _ _ (may-show _ b (not-true _ (both_right _ _ (both_left _ _ q)))) (lawful-from (bit_xor m (v * 16 + symbol_of b)) 0 l (both_right _ _ q))))
     (λ e.
     let q = sym (readable-hyphen m v (map symbol_of l)) ∙ rw (e, hyphen-symbol) at r in
     rw (e, hyphen-symbol, shows-hyphen l, text-hyphen m v (map symbol_of l)) (lawful-more true 45 0 _ _ (may-zero 45) (lawful-from m 0 l (both_right _ _ q))))
     (λ high no e.
     let q = sym (readable-high m v (symbol_of b) (map symbol_of l) high no) ∙ r in
-    rw (shows-none b l e, text-high m v (symbol_of b) (map symbol_of l) high no) (lawful-from m _ l (both_right _ _ q)))
+    rw (shows-none b l e, text-high m v (symbol_of b) (map symbol_of l) high no) (lawful-from m (v * 16 + (symbol_of b - 16)) l (both_right _ _ q)))
 
 pub lawful-marks : (l : List ℕ) → is_readable 96 0 (map symbol_of l) ≡ true → LawfulMarks true (text_of l) (marks_of l)
 unfolding text_of

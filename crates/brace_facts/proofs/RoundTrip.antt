@@ -7,7 +7,7 @@ use lib.Dec.{eqb, ltb}
 use lib.ListN.{length, take, length-append}
 use borrow.Author.Tests.{not-true}
 use native.Mathlib.Omega.{arith}
-use Rattle.basis.specs.Tests.{every_in}
+use Rattle.basis.specs.Tests.{pick, every_in}
 use Rattle.basis.specs.Rows.{at, AllBelow}
 use Rattle.basis.proofs.Tests.{cases, both_left, both_right}
 use Rattle.ascii.specs.Ldh.{is_ldh, is_all_ldh, is_host_label}
@@ -28,7 +28,7 @@ best-below : (all : List ℕ) (h : ℕ) (cs : List ℕ) → h < 512 → AllOf (�
 unfolding best_of AllOf
 best-below all h [] b a = b
 best-below all h (c ∷ cs) b a =
-    best-below all _ cs
+    best-below all (pick (is_better all (c / 128) h) (c / 128) h) cs
     (cases (is_better all (c / 128) h) (λ e. let d = a.0 in rw e (omega arith)) (λ e. rw e b))
     a.1
 

@@ -1,6 +1,6 @@
 -- The codes of each style can be told apart, and the style of a text suits every unit of it.
 use Prim.Native.Nat.{ℕ, ◌+◌, ◌-◌, ◌/◌, ◌%◌, ◌^◌, ◌≤◌, ◌<◌}
-use mathlib.Core.Path.{◌≡◌, refl}
+use mathlib.Core.Path.{◌≡◌, refl, sym, subst}
 use mathlib.Core.Bool.{false}
 use mathlib.Core.List.{List, [], ◌∷◌}
 use lib.Dec.{eqb, ltb}
@@ -80,18 +80,22 @@ codes_all s (u ∷ t) a =
     (λ e. (λ f. absurd (true-not-false e f), codes_all s t (rw e at a)))
     (λ e. let b : Codes s u × AllOf (Codes s) (codes_of t) = rw e at a in (λ f. b.0, codes_all s t b.1))
 
+-- codes of the style chosen
+suits-by : (cs : List ℕ) (s : Style) → style_for cs ≡ s → AllOf (Codes s) cs → AllOf (Codes (style_for cs)) cs
+suits-by cs s e a = subst (λ z. AllOf (Codes z) cs) (sym e) a
+
 -- the style chosen for a row of codes suits them
 style-suits : (cs : List ℕ) → AllOf (λ u. u < 65536) cs → AllOf (Codes (style_for cs)) cs
 unfolding style_for mixed_or_no_row AllOf
 style-suits [] a = tt
 style-suits (c ∷ cs) a =
     cases (every_in (λ x. eqb (x / 128) (c / 128)) cs)
-    (λ e. rw e (codes-half (c / 128) c refl, all_tested (λ u. u < 65536) (Codes (HalfRow (c / 128))) (λ x. eqb (x / 128) (c / 128)) (λ x f b. codes-half (c / 128) x (eqb-true _ _ f)) cs e a.1))
+    (λ e. suits-by (c ∷ cs) (HalfRow (c / 128)) (rw e) (codes-half (c / 128) c refl, all_tested (λ u. u < 65536) (Codes (HalfRow (c / 128))) (λ x. eqb (x / 128) (c / 128)) (λ x f b. codes-half (c / 128) x (eqb-true _ _ f)) cs e a.1))
     (λ n. cases (every_in (λ x. eqb (x / 256) (c / 256)) cs)
-    (λ e. rw (n, e) (codes-row (c / 256) c refl, all_tested (λ u. u < 65536) (Codes (Row (c / 256))) (λ x. eqb (x / 256) (c / 256)) (λ x f b. codes-row (c / 256) x (eqb-true _ _ f)) cs e a.1))
+    (λ e. suits-by (c ∷ cs) (Row (c / 256)) (rw (n, e)) (codes-row (c / 256) c refl, all_tested (λ u. u < 65536) (Codes (Row (c / 256))) (λ x. eqb (x / 256) (c / 256)) (λ x f b. codes-row (c / 256) x (eqb-true _ _ f)) cs e a.1))
     (λ k. cases (ltb (mixed_cost (c ∷ cs) (best_of (c ∷ cs) (c / 128) cs)) (no_row_cost (c ∷ cs)))
-    (λ e. rw (n, k, e) (all_then (λ u. u < 65536) (Codes (Mixed (best_of (c ∷ cs) (c / 128) cs))) (codes-mixed (best_of (c ∷ cs) (c / 128) cs)) (c ∷ cs) a))
-    (λ e. rw (n, k, e) (all_then (λ u. u < 65536) (Codes NoRow) codes-none (c ∷ cs) a))))
+    (λ e. suits-by (c ∷ cs) (Mixed (best_of (c ∷ cs) (c / 128) cs)) (rw (n, k, e)) (all_then (λ u. u < 65536) (Codes (Mixed (best_of (c ∷ cs) (c / 128) cs))) (codes-mixed (best_of (c ∷ cs) (c / 128) cs)) (c ∷ cs) a))
+    (λ e. suits-by (c ∷ cs) NoRow (rw (n, k, e)) (all_then (λ u. u < 65536) (Codes NoRow) codes-none (c ∷ cs) a))))
 
 -- the style of a text suits it
 pub text-suits : (t : List ℕ) → AllBelow 65536 t → AllCodes (style_of t) t

@@ -79,7 +79,7 @@ same-high h [] = refl
 same-high h (u ∷ us) =
     rw (join_is u (longest_runs us), eqb_swap h (u / 256))
     (cases (eqb (u / 256) h)
-    (λ e. rw e (ap suc (rw (← eqb-true (u / 256) h e) (same-high (u / 256) us))))
+    (λ e. rw e (ap suc (ap (λ k. same_high k us) (sym (eqb-true (u / 256) h e)) ∙ same-high (u / 256) us)))
     (λ e. rw e))
 
 steps-left : (before : ℕ) (us : List ℕ) → run_steps before us ≡ lows_under before (longest_runs us) ++ run_octets (runs_after before (longest_runs us))
