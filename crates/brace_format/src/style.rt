@@ -3,7 +3,7 @@ ghost use Rattle.std.specs.Prelude.{◌≡◌, ◌≤◌, ◌<◌};
 ghost use Rattle.brace_format.specs.Style.{other_half, head_width, head_value, width_of, code_of};
 
 // Half-row style with its half-row, row style with its row, mixed style with its half-row, and no-row style.
-#[derive(Drop)]
+#[derive(Clone, Copy)]
 pub enum Style {
     HalfRow(u16),
     Row(u16),

@@ -5,7 +5,7 @@ ghost use Rattle.std.specs.Prelude.{◌≡◌};
 ghost use Rattle.copying.specs.Modes.{after_hyphen, after_other, is_second, is_copied, next_mode, copying_after};
 
 // Letters are coded or copied; the same after one hyphen, of which the next byte tells whether it is half of a pair or a change.
-#[derive(Drop)]
+#[derive(Clone, Copy)]
 pub enum Mode {
     Coded,
     CodedHyphen,

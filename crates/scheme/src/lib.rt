@@ -11,7 +11,7 @@ use basis::BytesAnswer;
 use utf16::PointsAnswer;
 
 // A scheme.
-#[derive(Drop)]
+#[derive(Clone, Copy)]
 pub enum Scheme {
     Altdude,
     Lace,

@@ -1,0 +1,47 @@
+-- `decoding::put_text` meets its contract. What is left of the label can be read, and what is left of the text is still to be stored.
+use Prim.Native.Nat.{◌-◌}
+use mathlib.Core.Path.{refl, sym}
+use native.Mathlib.Omega.{arith}
+use Rattle.basis.proofs.Tests.{true-not-false}
+use Rattle.altdude.proofs.DecodeLaws.{symbol-small, reading-start, reading-stop, putting-start, putting-turn, putting-end}
+use Rattle.basis.proofs.Clauses.{two_clauses}
+use Rattle.altdude.proofs.decoding.put_text.Goals as goal
+
+pub loop-i-init : goal.loop-i-init
+loop-i-init c = (reading-start _ _ (sym c.requires.label_value), putting-start _ _)
+
+pub overflow_cast-symbol : goal.overflow_cast-symbol
+overflow_cast-symbol c = omega (arith, symbol-small _ _ c.symbol_of-symbol.ensures)
+
+pub advance-next-requires : goal.advance-next-requires
+advance-next-requires c = omega (arith, symbol-small _ _ c.symbol_of-symbol.ensures)
+
+pub shape_of-text-in_default : goal.shape_of-text-in_default
+shape_of-text-in_default c = c.loop-i.invariant.1.storing.long
+
+pub returns-in_default : goal.returns-in_default
+returns-in_default c =
+    let stop = reading-stop _ _ _ _ _ c.loop-i.invariant.0 c.loop-i-test.true _ c.symbol_of-symbol.ensures _ c.advance-next.ensures
+    c.in_default.is in
+    two_clauses (λ a b. record { value = a; text_after = b }) (absurd (true-not-false refl (sym stop)))
+
+pub put_symbol-at-requires : goal.put_symbol-at-requires
+put_symbol-at-requires c =
+    let l = c.loop-i in
+    omega (arith, l.invariant.1.behind, l.invariant.1.storing.long)
+
+pub loop-i-smaller : goal.loop-i-smaller
+loop-i-smaller c = omega arith
+
+pub loop-i-preserved : goal.loop-i-preserved
+loop-i-preserved c =
+    let l = c.loop-i in
+    putting-turn _ _ _ _ _ l.invariant.0 c.loop-i-test.true _ c.symbol_of-symbol.ensures _ c.advance-next.ensures _ _
+    c.in-Next.is _ _ _ _ _ l.invariant.1 c.put_symbol-at.ensures.value c.put_symbol-at.ensures.text_after
+
+pub shape_of-text : goal.shape_of-text
+shape_of-text c = c.loop-i.invariant.1.storing.long
+
+pub returns : goal.returns
+returns c =
+    two_clauses (λ a b. record { value = a; text_after = b }) (putting-end _ _ _ _ _ _ _ c.loop-i.invariant.1 c.loop-i-test.false c.requires.label_in_bounds)
