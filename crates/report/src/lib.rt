@@ -1,4 +1,6 @@
 // What the programs print, as bytes in a buffer.
+#![tactic(auto)]
+
 mod digits;
 mod lines;
 mod points;
