@@ -1,5 +1,5 @@
 -- What a read may answer, and what is believed of bytes that were read.
-use Rattle.std.specs.Prelude.{ℕ, ◌≤◌, List, []}
+use Rattle.std.specs.Prelude.{◌≡◌, ℕ, ◌≤◌, List, [], length, take}
 use Rattle.streams.specs.declared.Ending.{Ending}
 use Rattle.streams.specs.declared.Ending.TheVariants.{End, Failed}
 use Rattle.streams.specs.declared.ReadAnswer.{ReadAnswer}
@@ -16,3 +16,7 @@ ReadFits room (Over Failed) = Unit {0}
 abbrev pub believed : Ending → List ℕ → List ℕ
 believed End bytes = bytes
 believed Failed bytes = []
+
+-- so many bytes are in front of the buffer: the part of it that has them is as long
+abbrev pub IsPrefixLen : ℕ → List ℕ → Type 0
+IsPrefixLen count buffer = (count ≤ length buffer) × (count ≡ length (take count buffer))
