@@ -1,2 +1,3 @@
 -- Laws on what calls move.
 pub mod Counting
+pub mod Moving

@@ -1,5 +1,6 @@
 // Opening, reading and writing: calls that are made again after a signal, and their results.
-ghost use Rattle.std.specs.Prelude.{◌≡◌, ◌↔◌, ◌≤◌, length, IsTrue};
+ghost use Rattle.std.specs.Prelude.{◌≡◌, ◌↔◌, ◌≤◌, length, take, IsTrue};
+ghost use Rattle.std.specs.Io.KnownBytes.{Appends};
 ghost use Rattle.streams.specs.Calls.{IsInterrupted, read_answer};
 ghost use Rattle.streams.specs.declared.Ending.TheVariants.{Failed};
 ghost use Rattle.streams.specs.declared.ReadAnswer.TheVariants.{Over};
@@ -35,7 +36,8 @@ pub(crate) fn open_file<H: Files>(files: &H, path: &[u8]) -> Option<H::File> {
 
 // Writes some of the bytes, and answers how many: none if the write failed.
 fn write_some<W: Write>(writer: &mut W, bytes: &[u8]) -> usize
-    ensures { result ≤ length bytes.now }
+    ensures count { result ≤ length bytes.now }
+    ensures written { Appends (W.contents writer.old) (W.contents writer.new) (take result bytes.now) }
 {
     for _ in 0..u64::MAX {
         let moved = writer.write(bytes);
@@ -48,7 +50,8 @@ fn write_some<W: Write>(writer: &mut W, bytes: &[u8]) -> usize
 
 // Writes the bytes, and answers how many were written: all of them unless a write failed.
 pub(crate) fn write_all<W: Write>(writer: &mut W, bytes: &[u8]) -> usize
-    ensures { result ≤ length bytes.now }
+    ensures count { result ≤ length bytes.now }
+    ensures written { Appends (W.contents writer.old) (W.contents writer.new) (take result bytes.now) }
 {
     let mut done = 0;
     while done < bytes.len() {

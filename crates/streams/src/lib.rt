@@ -5,8 +5,9 @@
 
 mod calls;
 
-ghost use Rattle.std.specs.Prelude.{◌≡◌, ◌≤◌, length};
-ghost use Rattle.streams.specs.Reading.{IsPrefixLen, ReadFits, believed};
+ghost use Rattle.std.specs.Prelude.{◌≡◌, ◌≤◌, length, take};
+ghost use Rattle.std.specs.Io.KnownBytes.{Appends, Keeps};
+ghost use Rattle.streams.specs.Reading.{IsPrefixLen, ReadFits, ReadTakes, FillTakes, believed};
 
 use std::io::{Read, Write};
 use std::rt::{Env, Files};
@@ -35,7 +36,8 @@ pub struct Filled {
 // Reads once into the front of the buffer. A failure is reported to the writer of errors.
 // With an empty buffer 0 bytes would be taken for the end of input: that fails too.
 pub fn read<R: Read, E: Write>(reader: &mut R, errors: &mut E, buffer: &mut [u8]) -> ReadAnswer
-    ensures { ReadFits (length buffer.old) result }
+    ensures fits { ReadFits (length buffer.old) result }
+    ensures taken { ReadTakes (R.remaining reader.old) (R.remaining reader.new) buffer.new result }
 {
     if buffer.len() == 0 {
         return calls::read_failed(errors);
@@ -52,7 +54,8 @@ pub fn read<R: Read, E: Write>(reader: &mut R, errors: &mut E, buffer: &mut [u8]
 // Reads until the buffer is full, the input ends or a read fails. A full buffer is answered as the end of input: what
 // follows is not looked at.
 pub fn read_full<R: Read, E: Write>(reader: &mut R, errors: &mut E, buffer: &mut [u8]) -> Filled
-    ensures { IsPrefixLen result.count buffer.new }
+    ensures count { IsPrefixLen result.count buffer.new }
+    ensures taken { FillTakes (R.remaining reader.old) (R.remaining reader.new) buffer.new result }
 {
     let mut done = 0;
     while done < buffer.len() {
@@ -113,7 +116,9 @@ pub fn believed_bytes(ending: Ending, bytes: &[u8]) -> &[u8]
 // Writes the bytes to the output, and answers how many were written: all of them unless a write failed. A failure is
 // reported to the writer of errors.
 pub fn print<W: Write, E: Write>(output: &mut W, errors: &mut E, bytes: &[u8]) -> usize
-    ensures { result ≤ length bytes.now }
+    ensures count { result ≤ length bytes.now }
+    ensures written { Appends (W.contents output.old) (W.contents output.new) (take result bytes.now) }
+    ensures silent { result ≡ length bytes.now → Keeps (E.contents errors.old) (E.contents errors.new) }
 {
     let written = calls::write_all(output, bytes);
     if written < bytes.len() {
