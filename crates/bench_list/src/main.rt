@@ -9,44 +9,55 @@ ghost use Rattle.report.specs.Answer.{line_room};
 ghost use Rattle.bench_list.specs.Listing.{held_room};
 
 use chunks::Turn;
-use libc::STDIN_FILENO;
+use std::io::{Read, Write};
 use streams::Ending;
 
 // Prints the answer to the bytes held of a line once reading is over.
-fn print_last(ending: Ending, held: &[u8], out: &mut [u8])
+fn print_last<W: Write, E: Write>(
+    output: &mut W,
+    errors: &mut E,
+    ending: Ending,
+    held: &[u8],
+    out: &mut [u8],
+)
     requires { line_room ≤ length out.old }
 {
     let n = answers::answer_last(ending, held, out);
-    streams::print(&out[..n]);
+    streams::print(output, errors, &out[..n]);
 }
 
-// Answers the lines of standard input, read by read, until reading is over or a write fails.
-fn run(chunk: &mut [u8], line: &mut [u8], out: &mut [u8])
+// Answers the lines of an input, read by read, until reading is over or a write fails.
+fn run<R: Read, W: Write, E: Write>(
+    input: &mut R,
+    output: &mut W,
+    errors: &mut E,
+    chunk: &mut [u8],
+    line: &mut [u8],
+    out: &mut [u8],
+)
     requires line_len { length line.old ≡ held_room }
     requires chunk_in_bounds { line_room * length chunk.old ≤ length out.old }
     requires line_room_in_bounds { line_room ≤ length out.old }
 {
     let mut held = 0;
-    let mut turns = u64::MAX;
-    while turns > 0 {
-        let answer = streams::read(STDIN_FILENO, chunk);
+    for _ in 0..u64::MAX {
+        let answer = streams::read(input, errors, chunk);
         let turn = chunks::answer_read(answer, chunk, line, held, out);
         match turn {
             Turn::Ended(ending) => {
-                return print_last(ending, &line[..held], out);
+                return print_last(output, errors, ending, &line[..held], out);
             }
             Turn::Lines {
                 got: _,
                 written,
                 held: kept,
             } => {
-                if streams::print(&out[..written]) < written {
+                if streams::print(output, errors, &out[..written]) < written {
                     return;
                 }
                 held = kept;
             }
         }
-        turns -= 1;
     }
 }
 
@@ -57,10 +68,13 @@ fn output() -> [u8; 614400]
     [0; 614400]
 }
 
-fn main() {
+fn main(rt: HostRuntime) {
+    let mut input = rt.stdin();
+    let mut output = rt.stdout();
+    let mut errors = rt.stderr();
     let mut chunk = [0u8; 1024];
     // one byte more than a label has at most, to know a longer line
     let mut line = [0u8; 64];
     let mut out = output();
-    run(&mut chunk, &mut line, &mut out);
+    run(&mut input, &mut output, &mut errors, &mut chunk, &mut line, &mut out);
 }

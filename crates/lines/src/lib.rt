@@ -4,6 +4,9 @@
 ghost use Rattle.std.specs.Prelude.{◌≡◌, ◌++◌, ◌≤◌, min, length, take, drop};
 ghost use Rattle.lines.specs.Step.{line_end, held_after, in_front, step_answer};
 
+// The byte that ends a line.
+const LINE_FEED: u8 = b'\n';
+
 // What a step found: the line ended, and the next begins at an index of the chunk; or the chunk did. So many bytes are held.
 #[derive(Drop)]
 pub enum LineStep {
@@ -24,7 +27,7 @@ fn line_end(left: &[u8]) -> usize
 {
     let mut i = 0;
     while i < left.len() {
-        if left[i] == b'\n' {
+        if left[i] == LINE_FEED {
             return i;
         }
         i += 1;

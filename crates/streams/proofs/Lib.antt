@@ -1,3 +1,3 @@
--- Laws on the results of calls and on what they move.
-pub mod CallLaws
+-- Laws on what calls move.
 pub mod Counting
+pub mod Moving

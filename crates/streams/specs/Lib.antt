@@ -1,3 +1,3 @@
--- The results of calls of the C library, and what is believed of bytes that were read.
+-- The results of calls, and what is believed of bytes that were read.
 pub mod Calls
 pub mod Reading

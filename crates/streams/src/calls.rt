@@ -1,56 +1,61 @@
-// The C library's open, read and write: calls that are made again after a signal, and their results.
-ghost use Rattle.std.specs.Prelude.{◌≡◌, ◌≤◌, length};
-ghost use Rattle.streams.specs.Calls.{is_interrupted, read_answer};
+// Opening, reading and writing: calls that are made again after a signal, and their results.
+ghost use Rattle.std.specs.Prelude.{◌≡◌, ◌↔◌, ◌≤◌, length, take, IsTrue};
+ghost use Rattle.std.specs.Io.KnownBytes.{Appends};
+ghost use Rattle.streams.specs.Calls.{IsInterrupted, read_answer};
 ghost use Rattle.streams.specs.declared.Ending.TheVariants.{Failed};
 ghost use Rattle.streams.specs.declared.ReadAnswer.TheVariants.{Over};
 
 use crate::{Ending, ReadAnswer};
+use std::io::{ErrorKind, Write};
+use std::rt::Files;
+use std::{fs, io};
 
-// Whether a signal interrupted a call, by its answer and the number of its error.
-pub(crate) fn was_interrupted(moved: isize, error: i32) -> bool
-    ensures { result ≡ is_interrupted moved error }
+// Whether a signal interrupted a call, by what it answered.
+pub(crate) fn was_interrupted<T>(answer: &io::Result<T>) -> bool
+    ensures { IsTrue result ↔ IsInterrupted answer.now }
 {
-    if moved < 0 {
-        return error == libc::EINTR;
+    match answer {
+        Ok(_) => false,
+        Err(error) => error.kind() == ErrorKind::Interrupted,
     }
-    false
 }
 
-// Opens the file for reading, and answers a descriptor, or a number below 0.
-pub(crate) fn open_file(path: &[u8]) -> i32 {
-    let mut tries = u64::MAX;
-    while tries > 0 {
-        let fd = os::open_read(path);
-        if !was_interrupted(fd as isize, os::errno()) {
-            return fd;
+// Opens the file for reading, and answers it, or nothing if it can't be opened. A path that is not UTF-8 can't be.
+pub(crate) fn open_file<H: Files>(files: &H, path: &[u8]) -> Option<H::File> {
+    let Ok(path) = std::str::from_utf8(path) else {
+        return None;
+    };
+    for _ in 0..u64::MAX {
+        let opened = fs::open(files, path);
+        if !was_interrupted(&opened) {
+            return opened.ok();
         }
-        tries -= 1;
     }
-    -1
+    None
 }
 
 // Writes some of the bytes, and answers how many: none if the write failed.
-fn write_some(fd: i32, bytes: &[u8]) -> usize
-    ensures { result ≤ length bytes.now }
+fn write_some<W: Write>(writer: &mut W, bytes: &[u8]) -> usize
+    ensures count { result ≤ length bytes.now }
+    ensures written { Appends (W.contents writer.old) (W.contents writer.new) (take result bytes.now) }
 {
-    let mut tries = u64::MAX;
-    while tries > 0 {
-        let moved = libc::write(fd, bytes);
-        if !was_interrupted(moved, os::errno()) {
-            return io::count(moved, bytes);
+    for _ in 0..u64::MAX {
+        let moved = writer.write(bytes);
+        if !was_interrupted(&moved) {
+            return moved.unwrap_or(0);
         }
-        tries -= 1;
     }
     0
 }
 
 // Writes the bytes, and answers how many were written: all of them unless a write failed.
-pub(crate) fn write_all(fd: i32, bytes: &[u8]) -> usize
-    ensures { result ≤ length bytes.now }
+pub(crate) fn write_all<W: Write>(writer: &mut W, bytes: &[u8]) -> usize
+    ensures count { result ≤ length bytes.now }
+    ensures written { Appends (W.contents writer.old) (W.contents writer.new) (take result bytes.now) }
 {
     let mut done = 0;
     while done < bytes.len() {
-        let n = write_some(fd, &bytes[done..]);
+        let n = write_some(writer, &bytes[done..]);
         if n == 0 {
             return done;
         }
@@ -59,23 +64,21 @@ pub(crate) fn write_all(fd: i32, bytes: &[u8]) -> usize
     done
 }
 
-// Reports a failed read on standard error.
-pub(crate) fn read_failed() -> ReadAnswer
+// Reports a failed read to the writer of errors.
+pub(crate) fn read_failed<E: Write>(errors: &mut E) -> ReadAnswer
     ensures { result ≡ Over Failed }
 {
-    write_all(libc::STDERR_FILENO, b"read failed\n");
+    write_all(errors, b"read failed\n");
     ReadAnswer::Over(Ending::Failed)
 }
 
-// What a read answers, by the number that the call answered.
-pub(crate) fn read_answer(moved: isize) -> ReadAnswer
+// What a read answers, by what the call answered.
+pub(crate) fn read_answer<E: Write>(errors: &mut E, moved: io::Result<usize>) -> ReadAnswer
     ensures { result ≡ read_answer moved }
 {
-    if moved < 0 {
-        return read_failed();
+    match moved {
+        Err(_) => read_failed(errors),
+        Ok(0) => ReadAnswer::Over(Ending::End),
+        Ok(count) => ReadAnswer::Got(count),
     }
-    if moved == 0 {
-        return ReadAnswer::Over(Ending::End);
-    }
-    ReadAnswer::Got(moved as usize)
 }

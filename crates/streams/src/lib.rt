@@ -1,15 +1,16 @@
-// Reading a descriptor or a named file, and printing. A call that a signal interrupts is made again. Any other failure to
-// open, read or write is reported on standard error and answered, so that a failed read is not taken for the end of input,
-// nor a failed write for a done one.
+// Reading a reader or a named file, and printing. A call that a signal interrupts is made again. Any other failure to
+// open, read or write is reported to the writer of errors and answered, so that a failed read is not taken for the end of
+// input, nor a failed write for a done one.
 #![tactic(auto)]
 
 mod calls;
 
-ghost use Rattle.std.specs.Prelude.{◌≡◌, ◌≤◌, length};
-ghost use Rattle.io.specs.Counts.{IsPrefixLen};
-ghost use Rattle.streams.specs.Reading.{ReadFits, believed};
+ghost use Rattle.std.specs.Prelude.{◌≡◌, ◌≤◌, length, take};
+ghost use Rattle.std.specs.Io.KnownBytes.{Appends, Keeps};
+ghost use Rattle.streams.specs.Reading.{IsPrefixLen, ReadFits, ReadTakes, FillTakes, believed};
 
-use libc::{STDERR_FILENO, STDOUT_FILENO};
+use std::io::{Read, Write};
+use std::rt::{Env, Files};
 
 // How reading ended: the input did, or a read failed.
 #[derive(Drop)]
@@ -32,33 +33,33 @@ pub struct Filled {
     pub ending: Ending,
 }
 
-// Reads once into the front of the buffer. A failure is reported on standard error.
+// Reads once into the front of the buffer. A failure is reported to the writer of errors.
 // With an empty buffer 0 bytes would be taken for the end of input: that fails too.
-pub fn read(fd: i32, buffer: &mut [u8]) -> ReadAnswer
-    ensures { ReadFits (length buffer.old) result }
+pub fn read<R: Read, E: Write>(reader: &mut R, errors: &mut E, buffer: &mut [u8]) -> ReadAnswer
+    ensures fits { ReadFits (length buffer.old) result }
+    ensures taken { ReadTakes (R.remaining reader.old) (R.remaining reader.new) buffer.new result }
 {
     if buffer.len() == 0 {
-        return calls::read_failed();
+        return calls::read_failed(errors);
     }
-    let mut tries = u64::MAX;
-    while tries > 0 {
-        let moved = libc::read(fd, buffer);
-        if !calls::was_interrupted(moved, os::errno()) {
-            return calls::read_answer(moved);
+    for _ in 0..u64::MAX {
+        let moved = reader.read(buffer);
+        if !calls::was_interrupted(&moved) {
+            return calls::read_answer(errors, moved);
         }
-        tries -= 1;
     }
-    calls::read_failed()
+    calls::read_failed(errors)
 }
 
 // Reads until the buffer is full, the input ends or a read fails. A full buffer is answered as the end of input: what
 // follows is not looked at.
-pub fn read_full(fd: i32, buffer: &mut [u8]) -> Filled
-    ensures { IsPrefixLen result.count buffer.new }
+pub fn read_full<R: Read, E: Write>(reader: &mut R, errors: &mut E, buffer: &mut [u8]) -> Filled
+    ensures count { IsPrefixLen result.count buffer.new }
+    ensures taken { FillTakes (R.remaining reader.old) (R.remaining reader.new) buffer.new result }
 {
     let mut done = 0;
     while done < buffer.len() {
-        let answer = read(fd, &mut buffer[done..]);
+        let answer = read(reader, errors, &mut buffer[done..]);
         match answer {
             ReadAnswer::Over(ending) => {
                 return Filled {
@@ -78,24 +79,28 @@ pub fn read_full(fd: i32, buffer: &mut [u8]) -> Filled
 }
 
 // Reads the file that the program's argument at the index names, as read_full does. A file that can't be opened is a failed
-// read. os::arg answers 0 for an argument that is missing or too long: the path is then empty, as for an empty argument, and
-// opening it fails. Closing loses no byte that was read, and whether it fails is not looked at.
-pub fn read_argument(index: usize, buffer: &mut [u8]) -> Filled
+// read. An argument that is missing or too long is read as an empty path, and opening that fails, as for an empty argument.
+// Closing loses no byte that was read, and whether it fails is not looked at.
+pub fn read_argument<H: Env + Files, E: Write>(
+    rt: &H,
+    errors: &mut E,
+    index: usize,
+    buffer: &mut [u8],
+) -> Filled
     ensures { IsPrefixLen result.count buffer.new }
 {
-    let mut path = io::buffer();
-    let n = os::arg(index, &mut path);
-    let fd = calls::open_file(&path[..n]);
-    if fd < 0 {
-        calls::read_failed();
-        return Filled {
-            count: 0,
-            ending: Ending::Failed,
-        };
+    let mut path = [0u8; 4096];
+    let n = rt.arg(index, &mut path).unwrap_or(0);
+    match calls::open_file(rt, &path[..n]) {
+        None => {
+            calls::read_failed(errors);
+            Filled {
+                count: 0,
+                ending: Ending::Failed,
+            }
+        }
+        Some(mut file) => read_full(&mut file, errors, buffer),
     }
-    let filled = read_full(fd, buffer);
-    libc::close(fd);
-    filled
 }
 
 // The bytes that are believed of those that were read: all if the input ended, none if a read failed.
@@ -108,14 +113,16 @@ pub fn believed_bytes(ending: Ending, bytes: &[u8]) -> &[u8]
     }
 }
 
-// Writes the bytes to standard output, and answers how many were written: all of them unless a write failed. A failure is
-// reported on standard error.
-pub fn print(bytes: &[u8]) -> usize
-    ensures { result ≤ length bytes.now }
+// Writes the bytes to the output, and answers how many were written: all of them unless a write failed. A failure is
+// reported to the writer of errors.
+pub fn print<W: Write, E: Write>(output: &mut W, errors: &mut E, bytes: &[u8]) -> usize
+    ensures count { result ≤ length bytes.now }
+    ensures written { Appends (W.contents output.old) (W.contents output.new) (take result bytes.now) }
+    ensures silent { result ≡ length bytes.now → Keeps (E.contents errors.old) (E.contents errors.new) }
 {
-    let written = calls::write_all(STDOUT_FILENO, bytes);
+    let written = calls::write_all(output, bytes);
     if written < bytes.len() {
-        calls::write_all(STDERR_FILENO, b"write failed\n");
+        calls::write_all(errors, b"write failed\n");
     }
     written
 }

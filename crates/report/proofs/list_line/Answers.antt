@@ -1,0 +1,32 @@
+-- `list_line` meets its contract: the line is measured before the first store.
+use mathlib.Core.Path.{ap}
+use native.Mathlib.Omega.{arith}
+use Rattle.basis.specs.Outcome.{bytes_outcome}
+use Rattle.report.specs.Lines.{list_line}
+use Rattle.report.proofs.LineLaws.{points-line-length, list-line-length, line_refused, line-done}
+use Rattle.report.proofs.list_line.Goals as goal
+
+pub returns-then-out-points_length : goal.returns-then-out-points_length
+unfolding bytes_outcome
+returns-then-out-points_length c =
+    let a = c.args in
+    let both =
+    line_refused (list_line a.reader a.letter a.points.now) a.out.now
+    (omega (arith, list-line-length a.reader a.letter a.points.now, points-line-length a.points.now)) _
+    (ap bytes_outcome c.bytes_error.ensures) in
+    record { result_value = both.0; out_after = both.1 }
+
+pub put_list_line-requires : goal.put_list_line-requires
+put_list_line-requires c =
+    let a = c.args in
+    omega (arith, list-line-length a.reader a.letter a.points.now, points-line-length a.points.now)
+
+pub returns : goal.returns
+unfolding bytes_outcome
+returns c =
+    let a = c.args in
+    let both =
+    line-done (list_line a.reader a.letter a.points.now) a.out.now
+    (omega (arith, list-line-length a.reader a.letter a.points.now, points-line-length a.points.now)) _ _
+    c.put_list_line.ensures in
+    record { result_value = both.0; out_after = both.1 }

@@ -1,0 +1,30 @@
+-- `refused_line` meets its contract: the line is measured before the first store.
+use mathlib.Core.Path.{ap}
+use native.Mathlib.Omega.{arith}
+use Rattle.basis.specs.Outcome.{bytes_outcome}
+use Rattle.report.specs.Lines.{refused_line}
+use Rattle.report.proofs.LineLaws.{number-length, refused-length, line_refused, line-done}
+use Rattle.report.proofs.refused_line.Goals as goal
+
+pub returns-then-out-digits_length : goal.returns-then-out-digits_length
+unfolding bytes_outcome
+returns-then-out-digits_length c =
+    let a = c.args in
+    let both =
+    line_refused (refused_line a.code) a.out.now (omega (arith, refused-length a.code, number-length a.code)) _
+    (ap bytes_outcome c.bytes_error.ensures) in
+    record { result_value = both.0; out_after = both.1 }
+
+pub put_refused_line-requires : goal.put_refused_line-requires
+put_refused_line-requires c =
+    let a = c.args in
+    omega (arith, refused-length a.code, number-length a.code)
+
+pub returns : goal.returns
+unfolding bytes_outcome
+returns c =
+    let a = c.args in
+    let both =
+    line-done (refused_line a.code) a.out.now (omega (arith, refused-length a.code, number-length a.code)) _ _
+    c.put_refused_line.ensures in
+    record { result_value = both.0; out_after = both.1 }
