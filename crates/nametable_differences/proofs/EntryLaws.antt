@@ -27,9 +27,9 @@ module _ (xs ys : List ℕ) where
   other_text i h other =
       sym (ap (both (eqb (length xs) (length ys))) (not-each (length xs) (λ k. eqb (at xs k) (at ys k)) i h (ne_eqb _ _ other)) ∙ both_false _)
 
-  pub same_text : length xs ≡ length ys → ((k : ℕ) → k < length xs → eqb (at xs k) (at ys k) ≡ true) → true ≡ same_text xs ys
+  pub same-text : length xs ≡ length ys → ((k : ℕ) → k < length xs → eqb (at xs k) (at ys k) ≡ true) → true ≡ same_text xs ys
   unfolding same_text
-  same_text long each = sym (both_true (eq-eqb _ _ long) (each_at (length xs) _ each))
+  same-text long each = sym (both_true (eq-eqb _ _ long) (each_at (length xs) _ each))
 
 -- two entries, by what was found of their texts, which are given, and of their schemes
 module _ (e f xs ys : List ℕ) (left : xs ≡ text_in e) (right : ys ≡ text_in f) where

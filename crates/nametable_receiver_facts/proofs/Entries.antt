@@ -11,7 +11,7 @@ use Rattle.basis.proofs.Lists.{sets-front}
 use Rattle.nametable_format.specs.Format.{header_length, most_entries, entry_length, label_capacity, table_length, reader_of}
 use Rattle.nametable.specs.Answer.{entry_judged, entries_judged}
 use Rattle.nametable.proofs.TableLaws.{reader-part}
-use Rattle.nametable_receiver.specs.Receiving.{State, last_index, stored, judged_with, with_entry, ended, received}
+use Rattle.nametable_receiver.specs.Receiving.{State, last_index, stored, judged_with, with_entry, ended, stepped, received}
 use Rattle.nametable_receiver.proofs.StepLaws.{stepped-stored, stepped-ended}
 use Rattle.nametable_receiver_facts.proofs.Later.{refusal-kept-on}
 
@@ -19,7 +19,7 @@ use Rattle.nametable_receiver_facts.proofs.Later.{refusal-kept-on}
 pub received-append : (s : State) (a b : List ℕ) → received s (a ++ b) ≡ received (received s a) b
 unfolding received
 received-append s [] b = refl
-received-append s (x ∷ a) b = received-append _ a b
+received-append s (x ∷ a) b = received-append (stepped s x) a b
 
 -- the state after the entry at an index, whose bytes are these
 abbrev after_entry : State → List ℕ → ℕ → State

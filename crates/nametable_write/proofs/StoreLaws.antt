@@ -19,7 +19,7 @@ use Rattle.scheme.specs.Coding.{codec_of, encode_outcome, label_of}
 use Rattle.scheme.specs.declared.Scheme.{Scheme}
 use Rattle.scheme.proofs.Coding.{faithful, writable-text}
 use Rattle.nametable_format.specs.Format.{header_kind, header_length, entry_length, label_start, label_capacity, table_length}
-use Rattle.nametable_write.specs.Writing.{Entry, entry, entries_of, scheme_of, entry_written, entries_written, number_bytes, zeros, filled, entry_bytes, entries_bytes, table_of}
+use Rattle.nametable_write.specs.Writing.{Entry, entry, entries_of, scheme_of, entry_written, entries_written, number_bytes, zeros, filled, entry_bytes, entries_bytes, table_of, reader_in}
 use Rattle.nametable_write.specs.Internal.{Rows, Spelled, AllSpelled}
 use Rattle.nametable_write.proofs.ListLaws.{left, next, nothing_left, left-next, left-count}
 
@@ -120,12 +120,12 @@ unfolding entries_written entry_written
 all-spelled index least [] total e = tt
 all-spelled index least (entry reader scheme text ∷ es) total e =
     let b = both-done _ _ _ e in
-    ((b.0.0, (passed _ _ _ _ _ (passed _ _ _ _ _ b.0.1).1).1), all-spelled _ _ es total b.1)
+    ((b.0.0, (passed _ _ _ _ _ (passed _ _ _ _ _ b.0.1).1).1), all-spelled (suc index) (suc (reader_in (entry reader scheme text))) es total b.1)
 
 pub written-total : (index least : ℕ) (es : List Entry) (total : ℕ) {n : ℕ} → entries_written index least es total ≡ done n → n ≡ total
 unfolding entries_written
 written-total index least [] total e = cc
-written-total index least (x ∷ es) total e = written-total _ _ es total (both-done _ _ _ e).1
+written-total index least (x ∷ es) total e = written-total (suc index) (suc (reader_in x)) es total (both-done _ _ _ e).1
 
 -- the entries stored one by one: a turn, at the entry at index i, and the end
 module _ (readers schemes lengths points old : List ℕ) where
