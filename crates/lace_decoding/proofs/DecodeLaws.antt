@@ -5,8 +5,6 @@ use mathlib.Core.Bool.{Bool, true, false, not}
 use mathlib.Core.List.{List, [], ◌∷◌, ◌++◌}
 use native.Mathlib.Numerals.{add-one}
 use native.Mathlib.Omega.{arith}
-use denote.Enum.Declared.{tag_of}
-use types.Run.{OneOf, miss}
 use lib.Dec.{eqb, ltb, leb}
 use lib.ListN.{length, take, drop, length-drop, drop_of_length-le}
 use lib.Seq.{sets, drop-cons}
@@ -15,15 +13,14 @@ use Rattle.basis.specs.Tests.{both}
 use Rattle.basis.specs.Rows.{at}
 use Rattle.basis.specs.Outcome.{Outcome, done, refused, refused_if, number_of, bytes_outcome, buffer_after}
 use Rattle.basis.specs.declared.ErrorCode.{ErrorCode}
-use Rattle.basis.specs.declared.ErrorCode.TheVariants.{NotWellFormed}
+use Rattle.basis.specs.declared.ErrorCode.TheVariants.{NotWellFormed, OutsideAlphabet}
 use Rattle.basis.specs.declared.ByteCount.{ByteCount}
 use Rattle.basis.specs.declared.BytesAnswer.{BytesAnswer}
 use Rattle.basis.specs.declared.BytesAnswer.TheVariants as bytes
-use Rattle.basis.specs.contracts.ErrorCode.{the_type}
 use Rattle.basis.proofs.Tests.{cases, first-le}
 use Rattle.basis.proofs.Stores.{Storing, storing-more, storing-none}
 use Rattle.basis.proofs.Parts.{part-is, front-is, front_fits}
-use Rattle.basis.proofs.Outcome.{pass-given, handed-leaves, number-place}
+use Rattle.basis.proofs.Outcome.{pass-given, handed-leaves, number-tells}
 use Rattle.ascii.specs.Prefix.{has_prefix, after_prefix}
 use Rattle.ascii.specs.Ldh.{is_host_label}
 use Rattle.ascii.proofs.Prefix.{prefix-long}
@@ -211,16 +208,13 @@ module _ (os old row : List ℕ) (n : ℕ) (s : Stored (units_of os) old row n) 
   pub host-label-is : (host : Bool) → host ≡ is_host_label (take n row) → host ≡ is_host_label (units_of os)
   host-label-is host e = e ∙ ap is_host_label (units-front os old row n s)
 
--- every error of the Base32 reader but that of a byte outside the alphabet, by their places among all
-abbrev other_codes : List ℕ
-other_codes = 0 ∷ 1 ∷ 2 ∷ 3 ∷ 4 ∷ 5 ∷ 7 ∷ 8 ∷ 9 ∷ 10 ∷ 11 ∷ 12 ∷ 13 ∷ 14 ∷ 15 ∷ []
-
-pub other-error : (code : ErrorCode) (position : ℕ) → OneOf other_codes (tag_of the_type code) → (r : PointsAnswer) → r ≡ Error NotWellFormed 0
+-- every error of the Base32 reader but that of a byte outside the alphabet
+pub other-error : (code : ErrorCode) (position : ℕ) → (code ≡ OutsideAlphabet → ⊥) → (r : PointsAnswer) → r ≡ Error NotWellFormed 0
     → points_outcome r ≡ error_after_prefix (number_of code) position
 unfolding points_outcome error_after_prefix
 other-error code position o r e =
-    let t : tag_of the_type code ≡ 6 → ⊥ = λ q. miss other_codes 6 tt (rw q at o) in
-    ap points_outcome e ∙ sym (rw (ne_eqb (number_of code) 7 (λ q. t (omega (arith, (number-place code).0)))))
+    let t : number_of code ≡ 7 → ⊥ = λ q. o (number-tells code OutsideAlphabet q) in
+    ap points_outcome e ∙ sym (rw (ne_eqb (number_of code) 7 t))
 
 -- what follows the prefix, as the Base32 reader sees it
 abbrev passed : List ℕ → List ℕ

@@ -13,7 +13,7 @@ use utf16::{PointsAnswer, UnitCount, UnitsAnswer};
 
 // A place among runs: before a count, after a run of this high octet (256 where none was); before the high octet of a run of so
 // many; before a low octet, with so many to come under this high octet.
-#[derive(Drop)]
+#[derive(Clone, Copy)]
 pub enum Place {
     Count(u16),
     High(u16, u8),

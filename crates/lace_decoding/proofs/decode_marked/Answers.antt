@@ -1,0 +1,44 @@
+-- `decode_marked` meets its contract: the room for marks is tested, and then `decode` answers; of an accepted label as many marks of 0 are stored as it has points.
+use mathlib.Core.Path.{refl, sym, ap, ap₂, ◌∙◌}
+use native.Mathlib.Omega.{arith}
+use mathlib.Core.List.{◌++◌}
+use lib.ListN.{length}
+use Rattle.utf16.specs.Answer.{points_outcome}
+use Rattle.ascii.specs.Ldh.{is_host_label}
+use Rattle.labels.specs.Marks.{no_marks}
+use Rattle.labels.proofs.MarkRoom.{room-refused, decoded-refused, decoded-done}
+use Rattle.lace_decoding.specs.Decoding.{text_of, marks_of}
+use Rattle.lace_decoding.specs.Answer.{decode_outcome, decode_marked_outcome}
+use Rattle.lace_decoding.proofs.Lengths.{accepted-has}
+use Rattle.basis.proofs.Clauses.{three_clauses}
+use Rattle.lace_decoding.proofs.decode_marked.Goals as goal
+
+pub returns-then-marks-lt63 : goal.returns-then-marks-lt63
+unfolding points_outcome decode_marked_outcome
+returns-then-marks-lt63 c =
+    let a = c.args in
+    let l = a.label.now in
+    three_clauses (λ a b d. record { result_value = a; text_after = b; marks_after = d }) (room-refused (decode_outcome is_host_label (length a.text.now) l) (text_of l) (marks_of l) a.text.now a.marks.now (length a.marks.now) (omega arith) _ (ap points_outcome c.points_error.ensures))
+
+pub put_no_marks-requires : goal.put_no_marks-requires
+unfolding points_outcome
+put_no_marks-requires c =
+    omega (arith, c.if-marks-lt63.false, (accepted-has _ _ _ (sym c.decode-answer.ensures.result_value ∙ ap points_outcome c.in-Points.is)).0)
+
+pub returns-in-Error : goal.returns-in-Error
+unfolding points_outcome decode_marked_outcome
+returns-in-Error c =
+    let a = c.args in
+    let l = a.label.now in
+    three_clauses (λ a b d. record { result_value = a; text_after = b; marks_after = d }) (decoded-refused (decode_outcome is_host_label (length a.text.now) l) (text_of l) (marks_of l) a.text.now a.marks.now (length a.marks.now) (omega (arith, c.if-marks-lt63.false))
+    _ c.decode-answer.ensures.text_after _ _ (sym c.decode-answer.ensures.result_value ∙ ap points_outcome c.in-Error.is) _ (ap points_outcome c.points_error-in-Error.ensures))
+
+pub returns-in-Points : goal.returns-in-Points
+unfolding points_outcome decode_marked_outcome marks_of
+returns-in-Points c =
+    let a = c.args in
+    let l = a.label.now in
+    let answered = sym c.decode-answer.ensures.result_value ∙ ap points_outcome c.in-Points.is in
+    let count = (accepted-has _ _ _ answered).1 in
+    three_clauses (λ a b d. record { result_value = a; text_after = b; marks_after = d }) (decoded-done (decode_outcome is_host_label (length a.text.now) l) (text_of l) (marks_of l) a.text.now a.marks.now (length a.marks.now) (omega (arith, c.if-marks-lt63.false))
+    _ c.decode-answer.ensures.text_after _ answered _ (c.put_no_marks.ensures ∙ ap₂ ◌++◌ (ap no_marks count) refl))
