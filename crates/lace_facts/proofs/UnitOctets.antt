@@ -9,7 +9,7 @@ use lib.Seq.{get_or-drop}
 use borrow.Author.Tests.{eqb-true, eqb-false, eq-eqb, ne_eqb, ltb-true, lt-ltb, le-ltb, leb-true, le-leb, lt-leb, not-true}
 use native.Mathlib.Omega.{arith}
 use Rattle.basis.specs.Tests.{both}
-use Rattle.basis.specs.Rows.{at, AllBelow}
+use Rattle.basis.specs.Rows.{AllBelow}
 use Rattle.basis.proofs.Tests.{cases, by-lt, both_left, both_right, both_true, true-not-false}
 use Rattle.basis.proofs.Lists.{below_none, below_more, below-tail, below_right}
 use Rattle.utf16.specs.Bytes.{bytes_of_units}
