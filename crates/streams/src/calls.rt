@@ -1,6 +1,6 @@
 // Opening, reading and writing: calls that are made again after a signal, and their results.
-ghost use Rattle.std.specs.Prelude.{◌≡◌, ◌↔◌, ◌≤◌, length, take, IsTrue};
-ghost use Rattle.std.specs.Io.KnownBytes.{Appends};
+ghost use Rattle.std.specs.Prelude.{◌≡◌, ◌≢◌, ◌↔◌, ◌≤◌, length, take, IsTrue};
+ghost use Rattle.std.specs.Io.KnownBytes.{Appends, Keeps};
 ghost use Rattle.streams.specs.Calls.{IsInterrupted, read_answer};
 ghost use Rattle.streams.specs.declared.Ending.TheVariants.{Failed};
 ghost use Rattle.streams.specs.declared.ReadAnswer.TheVariants.{Over};
@@ -74,7 +74,8 @@ pub(crate) fn read_failed<E: Write>(errors: &mut E) -> ReadAnswer
 
 // What a read answers, by what the call answered.
 pub(crate) fn read_answer<E: Write>(errors: &mut E, moved: io::Result<usize>) -> ReadAnswer
-    ensures { result ≡ read_answer moved }
+    ensures answer { result ≡ read_answer moved }
+    ensures silent { result ≢ Over Failed → Keeps (E.contents errors.old) (E.contents errors.new) }
 {
     match moved {
         Err(_) => read_failed(errors),

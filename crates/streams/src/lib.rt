@@ -4,9 +4,13 @@
 #![tactic(auto)]
 
 mod calls;
+#[cfg(test)]
+mod tests;
 
-ghost use Rattle.std.specs.Prelude.{◌≡◌, ◌≤◌, length, take};
+ghost use Rattle.std.specs.Prelude.{◌≡◌, ◌≢◌, ◌≤◌, length, take};
 ghost use Rattle.std.specs.Io.KnownBytes.{Appends, Keeps};
+ghost use Rattle.streams.specs.declared.Ending.TheVariants.{End, Failed};
+ghost use Rattle.streams.specs.declared.ReadAnswer.TheVariants.{Over};
 ghost use Rattle.streams.specs.Reading.{IsPrefixLen, ReadFits, ReadTakes, FillTakes, believed};
 
 use std::io::{Read, Write};
@@ -38,6 +42,7 @@ pub struct Filled {
 pub fn read<R: Read, E: Write>(reader: &mut R, errors: &mut E, buffer: &mut [u8]) -> ReadAnswer
     ensures fits { ReadFits (length buffer.old) result }
     ensures taken { ReadTakes (R.remaining reader.old) (R.remaining reader.new) buffer.new result }
+    ensures silent { result ≢ Over Failed → Keeps (E.contents errors.old) (E.contents errors.new) }
 {
     if buffer.len() == 0 {
         return calls::read_failed(errors);
@@ -56,6 +61,7 @@ pub fn read<R: Read, E: Write>(reader: &mut R, errors: &mut E, buffer: &mut [u8]
 pub fn read_full<R: Read, E: Write>(reader: &mut R, errors: &mut E, buffer: &mut [u8]) -> Filled
     ensures count { IsPrefixLen result.count buffer.new }
     ensures taken { FillTakes (R.remaining reader.old) (R.remaining reader.new) buffer.new result }
+    ensures silent { result.ending ≡ End → Keeps (E.contents errors.old) (E.contents errors.new) }
 {
     let mut done = 0;
     while done < buffer.len() {
@@ -87,7 +93,8 @@ pub fn read_argument<H: Env + Files, E: Write>(
     index: usize,
     buffer: &mut [u8],
 ) -> Filled
-    ensures { IsPrefixLen result.count buffer.new }
+    ensures count { IsPrefixLen result.count buffer.new }
+    ensures silent { result.ending ≡ End → Keeps (E.contents errors.old) (E.contents errors.new) }
 {
     let mut path = [0u8; 4096];
     let n = rt.arg(index, &mut path).unwrap_or(0);

@@ -9,4 +9,5 @@ loop-done-preserved g c = record {
   taken =
       taken-more _ _ _ c.loop-done.buffer c.read-answer.new.buffer c.loop-done.done c.in-Got.n c.loop-done.invariant.inside (search rules)
       c.loop-done.invariant.taken c.in-Got.ensures.taken;
+  silent = search rules;
 }
