@@ -1,0 +1,15 @@
+-- `letter` meets its contract, scheme by scheme.
+use Rattle.scheme.specs.Naming.{row_of, letter_of}
+use Rattle.scheme.proofs.letter.Goals as goal
+
+pub returns-in-Altdude : goal.returns-in-Altdude
+unfolding letter_of row_of
+returns-in-Altdude c = rw c.in-Altdude.is
+
+pub returns-in-Lace : goal.returns-in-Lace
+unfolding letter_of row_of
+returns-in-Lace c = rw c.in-Lace.is
+
+pub returns-in-Brace : goal.returns-in-Brace
+unfolding letter_of row_of
+returns-in-Brace c = rw c.in-Brace.is
