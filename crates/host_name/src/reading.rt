@@ -69,7 +69,7 @@ fn read_lace(label: &[u8], text: &mut [u32]) -> PointsAnswer
     if dots::first_in_text(&text[..n]) < n {
         return utf16::points_error(ErrorCode::AmbiguousPart, 0);
     }
-    answer
+    PointsAnswer::Points(count)
 }
 
 // Reads one label.

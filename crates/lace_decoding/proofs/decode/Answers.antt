@@ -1,6 +1,11 @@
 -- Each test answers in its turn, and what follows the prefix is read as Base32 and then as octets.
 use Prim.Native.Nat.{ℕ}
-use mathlib.Core.Path.{sym, ap, ◌∙◌}
+use mathlib.Core.Path.{◌≡◌, sym, ap, ◌∙◌}
+use borrow.Author.Rules.{rules}
+use Rattle.basis.specs.declared.ErrorCode.{ErrorCode}
+use Rattle.utf16.specs.declared.PointsAnswer.{PointsAnswer}
+use Rattle.utf16.specs.declared.PointsAnswer.TheVariants as points
+use Rattle.labels.specs.declared.Check.TheVariants.{Passed}
 use mathlib.Core.List.{List}
 use lib.ListN.{length}
 use mathlib.Core.Bool.{not}
@@ -8,7 +13,7 @@ use lib.Seq.{length-take-le}
 use Prim.Native.Nat.{◌≤◌}
 use lib.ListN.{take, length-take}
 use native.Mathlib.Omega.{arith}
-use Rattle.basis.specs.Outcome.{number_of}
+use Rattle.basis.specs.Outcome.{refused, number_of}
 use Rattle.basis.proofs.Outcome.{stop-given, refusal-leaves}
 use Rattle.ascii.specs.Ldh.{is_host_label}
 use Rattle.ascii.specs.Prefix.{has_prefix}
@@ -20,18 +25,24 @@ use Rattle.lace_decoding.proofs.DecodeLaws.{prefix-fits, position-small, count_s
 use Rattle.basis.proofs.Clauses.{two_clauses}
 use Rattle.lace_decoding.proofs.decode.Goals as goal
 
+-- the answer that an error makes
+error-is : (code : ErrorCode) (position : ℕ) (answer : PointsAnswer) → answer ≡ points.Error code position → points_outcome answer ≡ refused (number_of code) position
+unfolding points_outcome
+error-is code position answer e = ap points_outcome e
+
 pub returns-in-Error : goal.returns-in-Error
 unfolding points_outcome decode_outcome
 returns-in-Error c =
-    two_clauses (λ a b. record { result_value = a; text_after = b }) (refusal-leaves (decode_outcome is_host_label _ c.args.label.now) _ _ _ (number_of c.in-Error.code) c.in-Error.position (ap points_outcome c.points_error.ensures)
+    two_clauses (λ a b. record { result_value = a; text_after = b }) (refusal-leaves (decode_outcome is_host_label _ c.args.label.now) _ _ _ (number_of c.in-Error.code) c.in-Error.position (search error-is)
     (check-stops _ _ c.check_label-check.ensures _ _ _ c.in-Error.is))
 
 pub returns-then-not-prefixed : goal.returns-then-not-prefixed
 unfolding points_outcome decode_outcome
 returns-then-not-prefixed c =
+    let passed : c.check_label-check.result ≡ Passed = search rules in
     let l = c.args.label.now in
-    two_clauses (λ a b. record { result_value = a; text_after = b }) (refusal-leaves (decode_outcome is_host_label _ l) _ _ _ 8 0 (ap points_outcome c.points_error-then-not-prefixed.ensures)
-    (check-passes _ _ c.check_label-check.ensures _ c.in-Passed.is
+    two_clauses (λ a b. record { result_value = a; text_after = b }) (refusal-leaves (decode_outcome is_host_label _ l) _ _ _ 8 0 (search error-is)
+    (check-passes _ _ c.check_label-check.ensures _ passed
     ∙ stop-given 8 0 _ _ (not (has_prefix prefix l)) (ap not c.has_prefix-prefixed.ensures) c.if-not-prefixed.true-raw))
 
 pub slice_bounds-decode-count : goal.slice_bounds-decode-count
