@@ -69,12 +69,19 @@ fn output() -> [u8; 614400]
 }
 
 fn main(rt: HostRuntime) {
-    let mut input = rt.stdin();
-    let mut output = rt.stdout();
-    let mut errors = rt.stderr();
+    let mut stdin = rt.stdin();
+    let mut stdout = rt.stdout();
+    let mut stderr = rt.stderr();
     let mut chunk = [0u8; 1024];
     // one byte more than a label has at most, to know a longer line
     let mut line = [0u8; 64];
     let mut out = output();
-    run(&mut input, &mut output, &mut errors, &mut chunk, &mut line, &mut out);
+    run(
+        &mut stdin,
+        &mut stdout,
+        &mut stderr,
+        &mut chunk,
+        &mut line,
+        &mut out,
+    );
 }

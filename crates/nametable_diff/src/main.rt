@@ -8,12 +8,12 @@ mod differences;
 const READ_MOST: usize = 34004;
 
 fn main(rt: HostRuntime) {
-    let mut output = rt.stdout();
-    let mut errors = rt.stderr();
+    let mut stdout = rt.stdout();
+    let mut stderr = rt.stderr();
     let mut left = [0u8; READ_MOST];
-    let left_read = streams::read_argument(&rt, &mut errors, 1, &mut left);
+    let left_read = streams::read_argument(&rt, &mut stderr, 1, &mut left);
     let mut right = [0u8; READ_MOST];
-    let right_read = streams::read_argument(&rt, &mut errors, 2, &mut right);
+    let right_read = streams::read_argument(&rt, &mut stderr, 2, &mut right);
     let left_ending = left_read.ending;
     let m = left_read.count;
     let right_ending = right_read.ending;
@@ -26,5 +26,5 @@ fn main(rt: HostRuntime) {
         &right[..n],
         &mut out,
     );
-    streams::print(&mut output, &mut errors, &out[..written]);
+    streams::print(&mut stdout, &mut stderr, &out[..written]);
 }

@@ -86,6 +86,7 @@ pub fn read_full<R: Read, E: Write>(reader: &mut R, errors: &mut E, buffer: &mut
 
 // Reads the file that the program's argument at the index names, as read_full does. A file that can't be opened is a failed
 // read. An argument that is missing or too long is read as an empty path, and opening that fails, as for an empty argument.
+// std's paths are text: a file whose name is not UTF-8 can't be opened, and is a failed read too.
 // Closing loses no byte that was read, and whether it fails is not looked at.
 pub fn read_argument<H: Env + Files, E: Write>(
     rt: &H,
