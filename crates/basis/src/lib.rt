@@ -6,7 +6,7 @@ ghost use Rattle.std.specs.Prelude.{◌≡◌};
 ghost use Rattle.basis.specs.Outcome.{number_of, count_of, bytes_outcome};
 
 // The causes of refusal of the scope paper and of its change requests, in their order; `number_of` of specs/Outcome.antt gives each its number.
-#[derive(Drop)]
+#[derive(Clone, Copy)]
 pub enum ErrorCode {
     Capacity,
     Empty,

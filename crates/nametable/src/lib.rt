@@ -19,7 +19,7 @@ use utf16::PointCount;
 pub const TEXT_CAPACITY: usize = 63;
 
 // What `header` and `read` answer: the number of entries, or the error.
-#[derive(Drop)]
+#[derive(Clone, Copy)]
 pub enum TableAnswer {
     Entries(usize),
     Error { code: ErrorCode, position: usize },

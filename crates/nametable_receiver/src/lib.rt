@@ -15,7 +15,7 @@ use nametable_format::{ENTRY_LENGTH, HEADER_LENGTH};
 // The bytes of the header, those of the entry that is being received and how many of them have come,
 // how many bytes have come in all, counted up to 33,504, the least reader number that this entry may
 // have, and the verdict on the entries before it: how many, or the first refusal.
-#[derive(Drop)]
+#[derive(Clone, Copy)]
 pub struct Receiver {
     pub header: [u8; HEADER_LENGTH],
     pub current: [u8; ENTRY_LENGTH],
