@@ -8,7 +8,7 @@ use lib.ListN.{length, take, length-append}
 use borrow.Author.Tests.{not-true}
 use native.Mathlib.Omega.{arith}
 use Rattle.basis.specs.Tests.{pick, every_in}
-use Rattle.basis.specs.Rows.{at, AllBelow}
+use Rattle.basis.specs.Rows.{AllBelow}
 use Rattle.basis.proofs.Tests.{cases, both_left, both_right}
 use Rattle.ascii.specs.Ldh.{is_ldh, is_all_ldh, is_host_label}
 use Rattle.alphabet.specs.Alphabet.{brace}

@@ -6,7 +6,6 @@ use lib.ListN.{length, take, drop, length-drop}
 use lib.Seq.{length-take-le, get_or-take, take-add, drop_at}
 use borrow.Author.Tests.{ltb-false}
 use native.Mathlib.Omega.{arith}
-use Rattle.basis.specs.Rows.{at}
 use Rattle.basis.specs.Outcome.{done, refused}
 use Rattle.basis.proofs.Tests.{by-lt}
 use Rattle.basis.proofs.Outcome.{stop-equal, pass-equal, stop-below, passed}
