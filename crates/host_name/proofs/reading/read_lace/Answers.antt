@@ -36,4 +36,4 @@ pub returns : goal.returns
 unfolding points_outcome
 returns c =
     let e = sym (ap points_outcome c.in-Points.is) ∙ c.decode-answer.ensures.result_value in
-    two_clauses (λ a b. record { result_value = a; by_index = b }) (lace-done c.args.label.now (length c.args.text.now) c.requires _ _ _ e c.decode-answer.ensures.text_after _ refl (omega (arith, c.first_in_text.ensures, c.if-first_in_text-n.false)))
+    two_clauses (λ a b. record { result_value = a; by_index = b }) (lace-done c.args.label.now (length c.args.text.now) c.requires _ _ _ e c.decode-answer.ensures.text_after _ refl (omega (arith, c.first_in_text.ensures)))

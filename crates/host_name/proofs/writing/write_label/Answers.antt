@@ -1,7 +1,9 @@
 -- `writing::write_label` meets its contract: LACE answers, or the host label is copied and its beginning looked at.
-use mathlib.Core.Path.{refl, sym, ap, ◌∙◌}
+use borrow.Author.Rules.{rules}
+use mathlib.Core.Bool.{true}
+use mathlib.Core.Path.{◌≡◌, refl, sym, ap, ◌∙◌}
 use lib.ListN.{length, drop}
-use borrow.Author.Tests.{not-true, not-false}
+use borrow.Author.Tests.{not-true}
 use native.Mathlib.Omega.{arith}
 use Rattle.basis.specs.Outcome.{bytes_outcome}
 use Rattle.basis.proofs.Parts.{front-is, front_fits, front_long}
@@ -18,7 +20,8 @@ returns-then-not-text_is_host_label c =
 
 pub copy_part-requires : goal.copy_part-requires
 copy_part-requires c =
-    let host = sym c.text_is_host_label.ensures ∙ not-false _ c.if-not-text_is_host_label.false-raw in
+    let yes : c.text_is_host_label.result ≡ true = search rules in
+    let host = sym c.text_is_host_label.ensures ∙ yes in
     record {
       part_value = host;
       part_in_bounds = omega (arith, (is-host c.args.part.now host).short, c.requires);
@@ -37,13 +40,15 @@ slice_bounds-has_prefix-end-2 c =
 pub returns-then-has_prefix : goal.returns-then-has_prefix
 unfolding bytes_outcome
 returns-then-has_prefix c =
+    let yes : c.text_is_host_label.result ≡ true = search rules in
     let part = c.args.part.now in
     let begins = ap (has_prefix prefix) (sym (front-is (length part) part (drop (length part) c.args.label.now) _ refl c.copy_part.ensures)) ∙ sym c.has_prefix.ensures ∙ c.if-has_prefix.true in
-    two_clauses (λ a b. record { result_value = a; by_index = b }) (taken-for-lace part (sym c.text_is_host_label.ensures ∙ not-false _ c.if-not-text_is_host_label.false-raw) begins _ (ap bytes_outcome c.bytes_error.ensures) _ _)
+    two_clauses (λ a b. record { result_value = a; by_index = b }) (taken-for-lace part (sym c.text_is_host_label.ensures ∙ yes) begins _ (ap bytes_outcome c.bytes_error.ensures) _ _)
 
 pub returns : goal.returns
 unfolding bytes_outcome
 returns c =
+    let yes : c.text_is_host_label.result ≡ true = search rules in
     let part = c.args.part.now in
     let begins = ap (has_prefix prefix) (sym (front-is (length part) part (drop (length part) c.args.label.now) _ refl c.copy_part.ensures)) ∙ sym c.has_prefix.ensures ∙ c.if-has_prefix.false in
-    two_clauses (λ a b. record { result_value = a; by_index = b }) (copied part (sym c.text_is_host_label.ensures ∙ not-false _ c.if-not-text_is_host_label.false-raw) begins _ _ c.copy_part.ensures)
+    two_clauses (λ a b. record { result_value = a; by_index = b }) (copied part (sym c.text_is_host_label.ensures ∙ yes) begins _ _ c.copy_part.ensures)
