@@ -3,9 +3,8 @@ use mathlib.Core.Path.{refl}
 use Rattle.basis.specs.Rows.{tabulate}
 use Rattle.nametable.specs.Answer.{table_outcome}
 use Rattle.nametable_receiver.specs.Receiving.{fresh}
-use Rattle.nametable_receiver.proofs.Receiver.new.Statement.{statement}
-use Rattle.nametable_receiver.proofs.Receiver.new.Tie as tie
+use Rattle.nametable_receiver.proofs.Receiver.new.Goals as goal
 
-pub new_spec : {M : Type 1} → statement M
+pub returns : goal.returns
 unfolding fresh tabulate table_outcome
-new_spec = tie.close (tie.spec (λ c. refl))
+returns c = refl
