@@ -1,4 +1,4 @@
-// The C interface: two exported functions on a scheme number and byte slices, answering one number.
+// The C interface: two functions on a scheme number and byte slices, answering one number. `firmware_c` exports them.
 #![tactic(auto)]
 
 mod read;
@@ -34,8 +34,7 @@ fn answer_number(answer: BytesAnswer) -> u32
 }
 
 // Writes the label of a text of big-endian UTF-16 bytes.
-#[unsafe(no_mangle)]
-pub extern "C" fn distelhut_write(scheme: u32, text: &[u8], label: &mut [u8]) -> u32
+pub fn distelhut_write(scheme: u32, text: &[u8], label: &mut [u8]) -> u32
     ensures value { result ≡ answer_of (write_outcome scheme (length label.old) text.now) }
     ensures label_after { label.new ≡ buffer_after (write_outcome scheme (length label.old) text.now) (written_label scheme text.now) label.old }
 {
@@ -43,8 +42,7 @@ pub extern "C" fn distelhut_write(scheme: u32, text: &[u8], label: &mut [u8]) ->
 }
 
 // Reads the text of a label as big-endian UTF-16 bytes.
-#[unsafe(no_mangle)]
-pub extern "C" fn distelhut_read(scheme: u32, label: &[u8], text: &mut [u8]) -> u32
+pub fn distelhut_read(scheme: u32, label: &[u8], text: &mut [u8]) -> u32
     ensures value { result ≡ answer_of (read_outcome scheme (length text.old) label.now) }
     ensures text_after { text.new ≡ buffer_after (read_outcome scheme (length text.old) label.now) (read_text scheme label.now) text.old }
 {

@@ -1,0 +1,36 @@
+-- `read::read_by` meets its contract: room, then the scheme's own refusal, else the text's bytes.
+use mathlib.Core.Path.{refl, sym, ap, ◌∙◌}
+use lib.ListN.{length}
+use native.Mathlib.Omega.{arith}
+use Rattle.basis.specs.Outcome.{bytes_outcome}
+use Rattle.basis.proofs.Outcome.{stop-below, pass_below, refusal-leaves, handed-leaves, and_then-refused-leaves, and_then-done-leaves, values-fit, values-are}
+use Rattle.utf16.specs.Answer.{points_outcome}
+use Rattle.utf16.proofs.Refusals.{text-leaves}
+use Rattle.scheme.proofs.Coding.{decoded-count, decoded-text, decoded-short}
+use Rattle.firmware.specs.Answer.{read_by}
+use Rattle.basis.proofs.Clauses.{two_clauses}
+use Rattle.firmware.proofs.read.read_by.Goals as goal
+
+pub returns-then-text-lt-TEXT_BYTES : goal.returns-then-text-lt-TEXT_BYTES
+unfolding bytes_outcome read_by
+returns-then-text-lt-TEXT_BYTES c =
+    let a = c.args in
+    two_clauses (λ a b. record { result_value = a; text_after = b }) (refusal-leaves _ _ _ _ 1 0 (ap bytes_outcome c.bytes_error.ensures) (stop-below 1 0 _ (length a.text.now) 252 (omega arith)))
+
+pub returns-in-Error : goal.returns-in-Error
+unfolding points_outcome bytes_outcome read_by
+returns-in-Error c =
+    let room = length c.args.text.now in
+    two_clauses (λ a b. record { result_value = a; text_after = b }) (handed-leaves _ _ _ _ _ _ _ (pass_below 1 0 _ room 252 (omega arith)) refl
+    (and_then-refused-leaves _ _ _ _ _ _ _ (sym c.decode-answer.ensures.result_value ∙ ap points_outcome c.in-Error.is) (ap bytes_outcome c.bytes_error-in-Error.ensures)))
+
+pub returns-in-Points : goal.returns-in-Points
+unfolding points_outcome read_by
+returns-in-Points c =
+    let a = c.args in
+    let is = sym c.decode-answer.ensures.result_value ∙ ap points_outcome c.in-Points.is in
+    let count = decoded-count a.scheme _ _ _ is in
+    two_clauses (λ a b. record { result_value = a; text_after = b }) (handed-leaves _ _ _ _ _ _ _ (pass_below 1 0 _ (length a.text.now) 252 (omega arith)) refl
+    (and_then-done-leaves _ _ _ _ _ _ _ is
+    (text-leaves _ _ (length a.text.now) _ _ _ _ (values-fit _ _ _ _ _ is count c.decode-answer.ensures.text_after) (omega (arith, count, decoded-short a.scheme _ _ _ is))
+    (values-are _ _ _ _ _ is count c.decode-answer.ensures.text_after) (decoded-text a.scheme _ _ _ is) (c.points_to_bytes.ensures.result_value, c.points_to_bytes.ensures.bytes_after))))
