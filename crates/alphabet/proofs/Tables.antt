@@ -40,3 +40,6 @@ module _ (byte : ℕ) (h : byte < 256) (value : ℕ) (is : value ≡ value_of al
   pub brace-some : (value ≡ 32 → ⊥) → (value + 8) % 32 ≡ value_of brace byte
   unfolding from_altdude
   brace-some n = rw (ne_eqb value 32 n) at value-from-altdude
+
+-- what `brace_value` needs
+pub ruleset brace_by_value = (brace-none, brace-some)

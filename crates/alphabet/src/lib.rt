@@ -36,6 +36,7 @@ fn lace_value(byte: u8) -> u8
 }
 
 // The value of a byte in BRACE's alphabet, 32 where it has none: its characters are AltDUDE's, the digits first.
+#[tactic(auto, using(crate::proofs::Tables::brace_by_value))]
 fn brace_value(byte: u8) -> u8
     ensures { result ≡ value_of brace byte }
 {

@@ -142,3 +142,6 @@ same-but-case l m = (λ s. case-small l m s.equally_long s.at_each, small-case l
 -- the small form of a label differs from it at most in case
 pub small-spelled : (label l : List ℕ) → label ≡ map small l → SameButCase label l
 small-spelled label l e = small-case label l (ap (map small) e ∙ all_small l)
+
+-- what `small_form`, `is_capital` and `capital_form` need
+pub ruleset case_by_range = (capital-inside, capital-below, capital-above, small-inside, small-below, small-above, capital-of-small, capital-of-lower, capital-of-higher)

@@ -82,3 +82,6 @@ edges-map f keeps l = edges-alike (map f l) l (first l) (last l 0 0 refl)
     last : (l : List ℕ) (d c : ℕ) → eqb d 45 ≡ eqb c 45 → eqb (last_of d (map f l)) 45 ≡ eqb (last_of c l) 45
     last [] d c h = h
     last (x ∷ l) d c h = last l (f x) x (keeps x)
+
+-- what the tests of the edges need
+pub ruleset edge_tests = (edge_none, edge-first, edge-last)

@@ -7,6 +7,7 @@ ghost use Rattle.ascii.specs.Ldh.{is_ldh, is_all_ldh, has_edge_hyphen, is_host_l
 ghost use Rattle.ascii.specs.Prefix.{has_prefix};
 
 // The small form of A to Z, any other byte itself.
+#[tactic(auto, using(crate::proofs::Case::case_by_range))]
 pub fn small_form(byte: u8) -> u8
     ensures { result ≡ small byte }
 {
@@ -20,6 +21,7 @@ pub fn small_form(byte: u8) -> u8
 }
 
 // Whether the byte is one of A to Z.
+#[tactic(auto, using(crate::proofs::Case::case_by_range))]
 pub fn is_capital(byte: u8) -> bool
     ensures { result ≡ is_capital byte }
 {
@@ -33,6 +35,7 @@ pub fn is_capital(byte: u8) -> bool
 }
 
 // The capital form of a to z, any other byte itself.
+#[tactic(auto, using(crate::proofs::Case::case_by_range))]
 pub fn capital_form(byte: u8) -> u8
     ensures { result ≡ capital byte }
 {
@@ -46,6 +49,7 @@ pub fn capital_form(byte: u8) -> u8
 }
 
 // Whether the number is a hyphen, a digit, A to Z or a to z.
+#[tactic(auto, using(crate::proofs::Ldh::ldh_by_range))]
 pub fn is_ldh(number: u32) -> bool
     ensures { result ≡ is_ldh number }
 {
@@ -68,6 +72,7 @@ pub fn is_ldh(number: u32) -> bool
 }
 
 // Whether all points are LDH.
+#[tactic(auto, using(crate::proofs::Ldh::scan_rules), unfolding(crate::specs::Ldh::is_all_ldh))]
 pub fn text_all_ldh(text: &[u32]) -> bool
     ensures { result ≡ is_all_ldh text.now }
 {
@@ -82,6 +87,7 @@ pub fn text_all_ldh(text: &[u32]) -> bool
 }
 
 // Whether all units are LDH.
+#[tactic(auto, using(crate::proofs::Ldh::scan_rules), unfolding(crate::specs::Ldh::is_all_ldh))]
 fn units_all_ldh(units: &[u16]) -> bool
     ensures { result ≡ is_all_ldh units.now }
 {
@@ -96,6 +102,7 @@ fn units_all_ldh(units: &[u16]) -> bool
 }
 
 // Whether the first or the last point is a hyphen; an empty text has none.
+#[tactic(auto, using(crate::proofs::EdgeHyphen::edge_tests))]
 pub fn text_has_edge_hyphen(text: &[u32]) -> bool
     ensures { result ≡ has_edge_hyphen text.now }
 {
@@ -109,6 +116,7 @@ pub fn text_has_edge_hyphen(text: &[u32]) -> bool
 }
 
 // Whether the first or the last byte is a hyphen; an empty label has none.
+#[tactic(auto, using(crate::proofs::EdgeHyphen::edge_tests))]
 pub fn label_has_edge_hyphen(label: &[u8]) -> bool
     ensures { result ≡ has_edge_hyphen label.now }
 {
@@ -122,6 +130,7 @@ pub fn label_has_edge_hyphen(label: &[u8]) -> bool
 }
 
 // Whether the points are a host label: 1 to 63 of them, no hyphen at either end, all LDH.
+#[tactic(auto, using(crate::proofs::HostLabel::host_label_tests))]
 pub fn text_is_host_label(text: &[u32]) -> bool
     ensures { result ≡ is_host_label text.now }
 {
@@ -138,6 +147,7 @@ pub fn text_is_host_label(text: &[u32]) -> bool
 }
 
 // Whether the units are a host label: 1 to 63 of them, no hyphen at either end, all LDH.
+#[tactic(auto, using(crate::proofs::HostLabel::host_label_rules))]
 pub fn units_are_host_label(units: &[u16]) -> bool
     ensures { result ≡ is_host_label units.now }
 {

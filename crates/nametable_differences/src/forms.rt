@@ -1,5 +1,5 @@
 // A table of either form, judged and left in the long one.
-ghost use Rattle.std.specs.Prelude.{◌≡◌, false, ◌≤◌, length};
+ghost use Rattle.std.specs.Prelude.{◌≡◌, false, ◌≤◌, ◌++◌, drop, length};
 ghost use Rattle.basis.specs.Outcome.{bytes_outcome, buffer_after};
 ghost use Rattle.nametable_format.specs.Format.{most_entries, table_length};
 ghost use Rattle.nametable_differences.specs.Differences.{is_short, in_long_form};
@@ -18,6 +18,17 @@ fn is_short(table: &[u8]) -> bool
     table[0] == nametable_short::SHORT_HEADER_KIND
 }
 
+// Copies a table to the front of a buffer, and answers how many bytes it has.
+fn copy(table: &[u8], long: &mut [u8]) -> usize
+    requires { length table.now ≤ length long.old }
+    ensures count { result ≡ length table.now }
+    ensures long_after { long.new ≡ table.now ++ drop (length table.now) long.old }
+{
+    let n = table.len();
+    long[..n].copy_from_slice(table);
+    n
+}
+
 // Judges a table of the long form and copies it, and answers how many bytes it has.
 fn put_long(table: &[u8], long: &mut [u8]) -> BytesAnswer
     requires table_value { is_short table.now ≡ false }
@@ -28,7 +39,7 @@ fn put_long(table: &[u8], long: &mut [u8]) -> BytesAnswer
     let verdict = nametable::read(table);
     match verdict {
         TableAnswer::Error { code, position } => basis::bytes_error(code, position),
-        TableAnswer::Entries(_) => BytesAnswer::Bytes(ByteCount(bytes::copy(table, long))),
+        TableAnswer::Entries(_) => BytesAnswer::Bytes(ByteCount(copy(table, long))),
     }
 }
 

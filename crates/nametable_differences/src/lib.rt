@@ -17,7 +17,7 @@ use basis::{ByteCount, BytesAnswer, ErrorCode};
 pub const REPORT_CAPACITY: usize = 16546;
 
 // What differs at a reader number that an entry of either table has.
-#[derive(Drop)]
+#[derive(Clone, Copy)]
 pub enum Difference {
     Same,
     OtherText,

@@ -119,3 +119,8 @@ module _ (us : List ℕ) (before i : ℕ) (s : Searching us before i) where
 pub text_at : (ps : List ℕ) (i : ℕ) → is_text ps ≡ true → i < length ps → is_point (get_or ps i 0) ≡ true
 unfolding is_text
 text_at ps i e h = at_each (length ps) _ e i h
+
+-- what `is_point`, `is_high` and `is_low` need
+pub ruleset point_by_place = (under-point, over-point, between-no-point, above-no-point)
+
+pub ruleset surrogate_by_place = (within-true, within-below, within-above)

@@ -3,6 +3,7 @@ ghost use Rattle.std.specs.Prelude.{◌≡◌};
 ghost use Rattle.surrogates.specs.Points.{is_point, first_not_point};
 
 // Whether the number is a point.
+#[tactic(auto, using(crate::proofs::Surrogates::point_by_place))]
 pub fn is_point(number: u32) -> bool
     ensures { result ≡ is_point number }
 {

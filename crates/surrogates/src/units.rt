@@ -3,6 +3,7 @@ ghost use Rattle.std.specs.Prelude.{◌≡◌, get_or};
 ghost use Rattle.surrogates.specs.Surrogates.{is_high, is_low, is_unpaired, first_unpaired};
 
 // Whether the unit is a high surrogate.
+#[tactic(auto, using(crate::proofs::Surrogates::surrogate_by_place), unfolding(crate::specs::Surrogates::is_high))]
 pub fn is_high(unit: u16) -> bool
     ensures { result ≡ is_high unit }
 {
@@ -13,6 +14,7 @@ pub fn is_high(unit: u16) -> bool
 }
 
 // Whether the unit is a low surrogate.
+#[tactic(auto, using(crate::proofs::Surrogates::surrogate_by_place), unfolding(crate::specs::Surrogates::is_low))]
 pub fn is_low(unit: u16) -> bool
     ensures { result ≡ is_low unit }
 {

@@ -2,15 +2,8 @@
 use native.Mathlib.Omega.{arith}
 use Rattle.alphabet.specs.Alphabet.{altdude}
 use Rattle.alphabet.proofs.Inverse.{value-le, altdude-alphabet}
-use Rattle.alphabet.proofs.Tables.{brace-none, brace-some}
 use Rattle.alphabet.proofs.brace_value.Goals as goal
-
-pub returns-then-value-eq32 : goal.returns-then-value-eq32
-returns-then-value-eq32 c = brace-none c.args.byte (omega arith) _ c.altdude_value-value.ensures c.if-value-eq32.true
 
 pub overflow_add-result : goal.overflow_add-result
 overflow_add-result c =
     record { fits = omega (arith, c.altdude_value-value.ensures, value-le altdude altdude-alphabet c.args.byte) }
-
-pub returns : goal.returns
-returns c = brace-some c.args.byte (omega arith) _ c.altdude_value-value.ensures c.if-value-eq32.false

@@ -1,6 +1,5 @@
 -- `has_prefix` meets its contract: a label that is too short has none, a byte that differs answers,
 -- and every byte passed is the prefix's, case ignored.
-use Prim.Native.Nat.{◌-◌}
 use native.Mathlib.Omega.{arith}
 use Rattle.basis.proofs.Scan.{passed_none, passed-more, found-failing, holds-throughout}
 use Rattle.ascii.proofs.Prefix.{prefix-short, prefix-compared, bytes-differ, bytes-alike}

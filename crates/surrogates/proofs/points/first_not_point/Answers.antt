@@ -1,5 +1,4 @@
 -- `points::first_not_point` meets its contract: every number passed is a point.
-use Prim.Native.Nat.{◌-◌}
 use mathlib.Core.Path.{sym, ap, ◌∙◌}
 use mathlib.Core.Bool.{not}
 use native.Mathlib.Omega.{arith}

@@ -1,5 +1,4 @@
 -- `units::first_unpaired` meets its contract: no unit before `i` is an unpaired surrogate.
-use Prim.Native.Nat.{◌-◌}
 use mathlib.Core.Path.{refl}
 use Rattle.surrogates.proofs.Surrogates.{searching-none, searching-found, searching-more, searching-all}
 use Rattle.surrogates.proofs.units.first_unpaired.Goals as goal

@@ -1,0 +1,23 @@
+-- `rows::right_taken` meets its contract, difference by difference.
+use Rattle.nametable_differences.specs.Internal.{right_taken}
+use Rattle.nametable_differences.proofs.rows.right_taken.Goals as goal
+
+pub returns-in-Same : goal.returns-in-Same
+unfolding right_taken
+returns-in-Same c = rw c.in-Same.is
+
+pub returns-in-OtherText : goal.returns-in-OtherText
+unfolding right_taken
+returns-in-OtherText c = rw c.in-OtherText.is
+
+pub returns-in-Respelled : goal.returns-in-Respelled
+unfolding right_taken
+returns-in-Respelled c = rw c.in-Respelled.is
+
+pub returns-in-OnlyLeft : goal.returns-in-OnlyLeft
+unfolding right_taken
+returns-in-OnlyLeft c = rw c.in-OnlyLeft.is
+
+pub returns-in-OnlyRight : goal.returns-in-OnlyRight
+unfolding right_taken
+returns-in-OnlyRight c = rw c.in-OnlyRight.is
