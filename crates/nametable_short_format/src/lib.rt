@@ -115,6 +115,7 @@ fn put_fitted(bytes: &[u8], start: usize, room: &mut [u8])
 }
 
 // Stores the long entry that a short one stands for, if the buffer is as long as it.
+#[tactic(auto, using(crate::proofs::EntryLaws::other_size))]
 pub fn put_long(short: &[u8], entry: &mut [u8])
     ensures { entry.new ≡ filled_by (long_of short.now) entry.old }
 {
