@@ -61,11 +61,18 @@ fn run<R: Read, W: Write, E: Write>(
     }
 }
 
+// A buffer of so many bytes.
+fn buffer<const N: usize>() -> [u8; N]
+    ensures { N ≡ length result }
+{
+    [0; N]
+}
+
 // The buffer of what is printed: 600 bytes for each byte of a chunk, since each may end a line.
 fn output() -> [u8; 614400]
     ensures { 614400 ≡ length result }
 {
-    [0; 614400]
+    buffer::<614400>()
 }
 
 fn main(rt: HostRuntime) {
