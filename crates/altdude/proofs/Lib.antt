@@ -4,4 +4,5 @@ pub mod Digits
 pub mod Steps
 pub mod EncodeLaws
 pub mod MarkLaws
+pub mod Tested
 pub mod DecodeLaws

@@ -18,8 +18,10 @@ use Rattle.basis.proofs.Lists.{sets-front}
 use Rattle.basis.proofs.Parts.{front-is}
 use Rattle.basis.proofs.Stores.{Storing, storing-all, storing-more, storing-none}
 use Rattle.ascii.specs.Case.{is_capital, capital}
-use Rattle.alphabet.specs.Alphabet.{altdude, value_of}
+use Rattle.alphabet.specs.Alphabet.{altdude, value_of, look_up}
+use Rattle.alphabet.specs.declared.Character.{Character}
 use Rattle.alphabet.proofs.Inverse.{value-le, altdude-alphabet}
+use Rattle.alphabet.proofs.LookUp.{value_found}
 use Rattle.labels.specs.Tests.{label_tests}
 use Rattle.labels.proofs.FirstTests.{label-passed}
 use Rattle.altdude.specs.Symbols.{symbol_of}
@@ -226,3 +228,14 @@ accepted-has capacity l count e =
     let short = (passed _ _ _ _ _ (passed _ _ _ _ _ (passed _ _ _ _ _ e).1).1).1 in
     let last : done (length (text_of l)) ≡ done count = (passed _ _ _ _ _ (passed _ _ _ _ _ (passed _ _ _ _ _ short).1).1).1 in
     (first.short, sym (ap count_of last))
+
+-- what a byte that was looked up ends
+module _ (byte : ℕ) (other : byte ≡ 45 → ⊥) (found : Character) (is : found ≡ look_up altdude byte) where
+  pub found-last : found.value < 16 → 1 ≡ items_ended byte
+  found-last h = last-ends byte other _ (value_found altdude byte is) h
+
+  pub found-leading : 16 ≤ found.value → 0 ≡ items_ended byte
+  found-leading h = leading-ends byte other _ (value_found altdude byte is) h
+
+-- what `items_ended` needs
+pub ruleset ends_rules = (hyphen-ends, found-last, found-leading)

@@ -22,6 +22,7 @@ use utf16::{PointCount, PointsAnswer};
 const NO_MARKS: [u8; 0] = [];
 
 // Writes the label of a text that passed the first tests, with marks.
+#[tactic(auto, using(crate::proofs::Tested::long_rules))]
 fn encode_checked(text: &[u32], marks: &[u8], label: &mut [u8]) -> BytesAnswer
     requires { 63 ≤ length label.old }
     ensures result_value { bytes_outcome result ≡ label_outcome text.now }

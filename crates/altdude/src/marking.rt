@@ -5,6 +5,7 @@ ghost use Rattle.basis.specs.Tests.{pick};
 ghost use Rattle.altdude.specs.Marks.{items_ended, marked_byte, marked, shows_mark, marks_of};
 
 // How many items a byte ends: a hyphen or the last character of a group one, any other byte none.
+#[tactic(auto, using(crate::proofs::MarkLaws::ends_rules))]
 fn items_ended(byte: u8) -> usize
     ensures value { result ≡ items_ended byte }
     ensures upper_bound { result ≤ 1 }

@@ -13,6 +13,7 @@ use basis::{ByteCount, BytesAnswer, ErrorCode};
 pub use brace_decoding::decode;
 
 // Writes the label of a text.
+#[tactic(auto, using(brace_symbols::proofs::Labels::put_stops), unfolding(basis::specs::Outcome::bytes_outcome, basis::specs::Outcome::buffer_after))]
 pub fn encode(units: &[u16], label: &mut [u8]) -> BytesAnswer
     ensures result_value { bytes_outcome result ≡ encode_outcome (length label.old) units.now }
     ensures label_after { label.new ≡ buffer_after (encode_outcome (length label.old) units.now) (label_of units.now) label.old }

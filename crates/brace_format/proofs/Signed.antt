@@ -84,3 +84,6 @@ module _ (a b c d : ℕ) where
       pub fourth-decides : y ≡ 22 → (z : ℕ) → z ≡ value_of brace d → eqb z 7 ≡ are_for brace signature (a ∷ b ∷ c ∷ d ∷ [])
       unfolding both
       fourth-decides e z ez = rw (signature-is, eq-eqb a 45 hyphen, ← ex, eq-eqb x 6 six, ← ey, eq-eqb y 22 e, ← ez)
+
+-- what `is_signature` needs
+pub ruleset signature_rules = (no-hyphen, second-differs, third-differs, fourth-decides)

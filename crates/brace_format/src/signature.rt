@@ -15,6 +15,7 @@ fn value_of(unit: u16) -> u8
 }
 
 // Whether four units are the signature, in either case.
+#[tactic(auto, using(crate::proofs::Signed::signature_rules))]
 pub fn is_signature(first: u16, second: u16, third: u16, fourth: u16) -> bool
     ensures { result ≡ are_for brace signature (first ∷ second ∷ third ∷ fourth ∷ []) }
 {

@@ -12,6 +12,7 @@ pub enum Style {
 }
 
 // The other half-row of the same row.
+#[tactic(auto, unfolding(crate::specs::Style::other_half))]
 pub fn other_half(half: u16) -> u16
     ensures { result ≡ other_half half }
 {

@@ -138,6 +138,9 @@ module _ (t : List ℕ) (capacity : ℕ) (room : 63 ≤ capacity) where
       unfolding is_too_long
       by_length h = after-edges ∙ rw (le-ltb 63 (length t) h, length_label t)
 
+-- the tests on sizes by one name
+pub ruleset put_stops = (stop-capacity, stop-many)
+
 -- a capacity over 63 says the same as 63
 pub pass-capacity : (t : List ℕ) (capacity : ℕ) → 63 ≤ capacity → encode_outcome capacity t ≡ encode_outcome 63 t
 unfolding encode_outcome

@@ -13,6 +13,7 @@ ghost use Rattle.brace_symbols.specs.Answer.{encode_outcome};
 use basis::{BytesAnswer, ErrorCode};
 
 // Writes the symbols of a text, or refuses it.
+#[tactic(auto, using(crate::proofs::Labels::put_stops), unfolding(basis::specs::Outcome::bytes_outcome, basis::specs::Outcome::buffer_after))]
 pub fn put_symbols(units: &[u16], symbols: &mut [u8]) -> BytesAnswer
     ensures result_value { bytes_outcome result ≡ encode_outcome (length symbols.old) units.now }
     ensures symbols_after { symbols.new ≡ buffer_after (encode_outcome (length symbols.old) units.now) (symbols_of units.now) symbols.old }

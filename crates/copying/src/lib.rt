@@ -62,6 +62,7 @@ pub fn is_copied(mode: Mode) -> bool
 }
 
 // The mode after a byte.
+#[tactic(auto, unfolding(crate::specs::Modes::next_mode))]
 pub fn next_mode(mode: Mode, byte: u8) -> Mode
     ensures { result ≡ next_mode mode byte }
 {
@@ -72,6 +73,7 @@ pub fn next_mode(mode: Mode, byte: u8) -> Mode
 }
 
 // Whether letters are being copied after an element of a text.
+#[tactic(auto, unfolding(crate::specs::Modes::copying_after))]
 pub fn copying_after(copying: bool, element: u32) -> bool
     ensures { result ≡ copying_after copying element }
 {

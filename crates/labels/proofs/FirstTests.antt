@@ -11,7 +11,7 @@ use Rattle.basis.specs.Outcome.{Outcome, done, refused, number_of, and_then}
 use Rattle.basis.specs.Causes.{Cause, whole, Settles}
 use Rattle.basis.specs.declared.ErrorCode.{ErrorCode}
 use Rattle.basis.proofs.Tests.{ltb_iff, eqb-iff, first-le}
-use Rattle.basis.proofs.Outcome.{stop-below, pass_below, pass-equal, passed}
+use Rattle.basis.proofs.Outcome.{stop-below, pass_below, stop-equal, pass-equal, passed}
 use Rattle.basis.proofs.Causes.{settle-whole, settle-first}
 use Rattle.utf16.specs.Points.{is_point, first_not_point}
 use Rattle.labels.specs.Tests.{text_tests, label_tests}
@@ -98,3 +98,8 @@ module _ (capacity : ℕ) (xs : List ℕ) {later : List Cause} {count : ℕ} {ne
       (λ _. settle-whole _ 2 (eqb-iff (length xs) 0)
       (λ some. settle-whole _ 3 (ltb_iff 63 (length xs))
       (λ short. rest (eqb-false _ _ some) (ltb-false _ _ short))))
+
+-- what the tests of the sizes need
+pub ruleset sizes_rules = (stop-below, pass_below, stop-equal, pass-equal)
+
+pub ruleset label_rules = (check-passes, stop-below, pass_below)

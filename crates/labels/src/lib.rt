@@ -17,6 +17,7 @@ pub enum Check {
 }
 
 // Tests the number of points or bytes that are to be coded, and the room for the result: 1, 2.
+#[tactic(auto, using(crate::proofs::FirstTests::sizes_rules), unfolding(basis::specs::Outcome::and_then, crate::specs::Answer::check_outcome))]
 fn check_sizes(length: usize, capacity: usize) -> Check
     ensures { (next : Outcome) → and_then (λ p. p) (check_outcome result) next ≡ refused_if (ltb capacity 63) 1 0 (refused_if (eqb length 0) 2 0 next) }
 {
@@ -57,6 +58,7 @@ pub fn check_text(text: &[u32], capacity: usize) -> Check
 }
 
 // Whether the mark may be on the point, under a scheme that keeps marks or one that does not.
+#[tactic(auto, unfolding(crate::specs::Marks::may_mark, basis::specs::Tests::both))]
 fn may_mark(keeps: bool, point: u32, mark: u8) -> bool
     ensures { result ≡ may_mark keeps point mark }
 {
@@ -115,6 +117,7 @@ pub fn check_marked(keeps: bool, text: &[u32], marks: &[u8], capacity: usize) ->
 }
 
 // Tests a label of so many bytes that is to be read into so many points: 1, 2, 3.
+#[tactic(auto, using(crate::proofs::FirstTests::label_rules), unfolding(basis::specs::Outcome::and_then, crate::specs::Answer::check_outcome, crate::specs::Tests::label_tests))]
 pub fn check_label(length: usize, capacity: usize) -> Check
     ensures { (next : Outcome) → and_then (λ p. p) (check_outcome result) next ≡ label_tests capacity length next }
 {

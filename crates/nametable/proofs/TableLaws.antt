@@ -7,7 +7,7 @@ use mathlib.Core.List.{List}
 use lib.Dec.{eqb, ltb, leb}
 use lib.ListN.{length, take, drop}
 use lib.Seq.{get_or-take, drop-drop}
-use borrow.Author.Tests.{lt-ltb, ltb-false, eq-eqb, ne_eqb, eqb-true, le-leb, lt-leb, leb-false, not-false}
+use borrow.Author.Tests.{ltb-false, eq-eqb, ne_eqb, eqb-true, le-leb, lt-leb, leb-false, not-false}
 use native.Mathlib.Numerals.{add-one}
 use native.Mathlib.Omega.{arith}
 use Rattle.basis.specs.Tests.{within}
@@ -310,6 +310,9 @@ module _ (least position capacity : ℕ) (e : List ℕ) where
     pub lone-read : length e ≡ entry_length → lone_entry_outcome least position capacity e ≡ entry_read least position e
     unfolding lone_entry_outcome length_tests
     lone-read h = pass_below 1 0 _ _ _ room ∙ pass_below 13 0 _ (length e) entry_length (omega arith) ∙ pass_below 14 0 _ entry_length (length e) (omega arith)
+
+-- these tests by one name
+pub ruleset lone_stops = (lone-no-room, lone-cut, lone-long)
 
 -- one entry of a table that reads whole: `judged_entry` answers as `entry`
 module _ (t : List ℕ) (n : ℕ) (read : read_outcome t ≡ done n) (index : ℕ) where

@@ -85,6 +85,7 @@ pub fn read(table: &[u8]) -> TableAnswer
 
 // Reads an entry that comes without its table, and whose reader number is to be at least the least.
 // An error of the entry is reported at the position.
+#[tactic(auto, using(crate::proofs::TableLaws::lone_stops), unfolding(crate::specs::Answer::entry_outcome, crate::specs::Answer::entry_from, basis::specs::Outcome::buffer_after))]
 pub fn lone_entry(entry: &[u8], least: usize, position: usize, text: &mut [u32]) -> EntryAnswer
     ensures result_value { entry_outcome result ≡ entry_from entry.now (lone_entry_outcome least position (length text.old) entry.now) }
     ensures text_after { text.new ≡ buffer_after (lone_entry_outcome least position (length text.old) entry.now) (text_in entry.now) text.old }

@@ -40,6 +40,9 @@ module _ (s : State) (b : ℕ) where
     unfolding stepped
     stepped-ended h = rw (lt-ltb s.total most_bytes few, le-ltb s.total header_length long, le-ltb s.filled last_index h)
 
+-- the first two by one name
+pub ruleset first_steps = (stepped-past, stepped-header)
+
 -- a turn of the loop: what is left of the chunk, from its first byte on
 pub received-turn : (s : State) (chunk : List ℕ) (i : ℕ) → i < length chunk → received s (drop i chunk) ≡ received (stepped s (get_or chunk i 0)) (drop (i + 1) chunk)
 unfolding received

@@ -88,6 +88,7 @@ fn last_byte(state: Receiver, byte: u8) -> Receiver
 }
 
 // The state after a byte.
+#[tactic(auto, using(crate::proofs::StepLaws::first_steps))]
 pub(crate) fn after_byte(state: Receiver, byte: u8) -> Receiver
     ensures { state_of result ≡ stepped (state_of state) byte }
 {

@@ -259,6 +259,10 @@ module _ (bytes buffer : List ℕ) where
   unfolding filled_by
   length-filled = cases (eqb (length buffer) (length bytes)) (λ e. rw e (sym (eqb-true (length buffer) (length bytes) e))) (λ e. rw e)
 
+-- a buffer of another length than a long entry's is left
+pub other_size : (e buffer : List ℕ) → (length buffer ≡ entry_length → ⊥) → filled_by (long_of e) buffer ≡ buffer
+other_size e buffer other = sym (filled-other (long_of e) buffer (λ is. other (is ∙ long-size e)))
+
 -- the first entry of some bytes: its kind and reader number are theirs, and it is as long as its kind
 -- says where they are long enough
 module _ (bytes : List ℕ) where

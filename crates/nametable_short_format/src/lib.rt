@@ -22,6 +22,7 @@ pub const SHORT_LENGTH_START: usize = 4;
 pub const SHORT_LABEL_START: usize = 5;
 
 // The room of a short entry of this kind for its label; 0 if no short entry has this kind.
+#[tactic(auto, unfolding(crate::specs::Format::room_of))]
 pub fn room_of(kind: u8) -> usize
     ensures { (result ≡ room_of kind) × (result ≤ label_capacity) }
 {
@@ -38,6 +39,7 @@ pub fn room_of(kind: u8) -> usize
 }
 
 // The smallest kind that has room for so many bytes of label, 63 at most.
+#[tactic(auto, unfolding(crate::specs::Format::kind_for))]
 pub fn kind_for(bytes: u8) -> u8
     ensures { result ≡ kind_for bytes }
 {
@@ -113,6 +115,7 @@ fn put_fitted(bytes: &[u8], start: usize, room: &mut [u8])
 }
 
 // Stores the long entry that a short one stands for, if the buffer is as long as it.
+#[tactic(auto, using(crate::proofs::EntryLaws::other_size))]
 pub fn put_long(short: &[u8], entry: &mut [u8])
     ensures { entry.new ≡ filled_by (long_of short.now) entry.old }
 {

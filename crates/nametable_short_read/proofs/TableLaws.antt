@@ -9,7 +9,7 @@ use native.Mathlib.Omega.{arith}
 use Rattle.basis.specs.Outcome.{done, refused, and_then}
 use Rattle.basis.proofs.Outcome.{pass-equal, pass_below, both-done, passed}
 use Rattle.nametable_format.specs.Format.{header_length, text_capacity, count_of, kind_of, reader_of}
-use Rattle.nametable.proofs.TableLaws.{Header, header-passed, header-done, lower-least, found-past, found_here}
+use Rattle.nametable.proofs.TableLaws.{Header, header-passed, header-done, lower-least, found-no-room, found-past, found_here}
 use Rattle.nametable_short_format.specs.Format.{short_header_kind, room_of, short_length, first_entry, after_first, from_entry, short_entry_at, long_of}
 use Rattle.nametable_short_read.specs.Answer.{whole_tests, short_entry_judged, short_entries_judged, short_read_outcome, short_find_outcome}
 use Rattle.nametable_short_read.specs.Internal.{short_entry_read, BeginsAt}
@@ -124,3 +124,8 @@ module _ (t : List ℕ) (n : ℕ) (read : short_read_outcome t ≡ done n) (inde
       read_found capacity room =
           rw part-found (short-entry-good t n (short-read-table t n read) index inside _)
           ∙ sym (found_here _ _ _ _ _ room read (rw (← (short-read-table t n read).counted) inside))
+
+-- a text that has not room enough
+pub short_no_room : (t : List ℕ) (index capacity : ℕ) → capacity < text_capacity → short_find_outcome t index capacity ≡ refused 1 0
+unfolding short_find_outcome
+short_no_room t index capacity h = found-no-room _ _ _ _ _ h

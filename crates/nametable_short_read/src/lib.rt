@@ -26,6 +26,7 @@ pub fn read(table: &[u8]) -> TableAnswer
 }
 
 // Reads the entry at an index of a short table, which is judged whole before.
+#[tactic(auto, using(crate::proofs::TableLaws::short_no_room), unfolding(nametable::specs::Answer::entry_outcome, nametable::specs::Answer::entry_from, basis::specs::Outcome::buffer_after))]
 pub fn entry(table: &[u8], index: usize, text: &mut [u32]) -> EntryAnswer
     ensures result_value { entry_outcome result ≡ entry_from (long_of (short_entry_at table.now index)) (short_find_outcome table.now index (length text.old)) }
     ensures text_after { text.new ≡ buffer_after (short_find_outcome table.now index (length text.old)) (short_entry_text table.now index) text.old }

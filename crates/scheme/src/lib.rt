@@ -62,6 +62,7 @@ pub fn letter(scheme: Scheme) -> u8
 const DEFAULT: u32 = 1;
 
 // The scheme that a number names by itself; 0 names none.
+#[tactic(auto, unfolding(crate::specs::Naming::own_number_names, crate::specs::Naming::first_with, crate::specs::Naming::schemes, crate::specs::Naming::number_of, crate::specs::Naming::row_of))]
 pub fn of_own_number(number: u32) -> Named
     ensures { result ≡ own_number_names number }
 {
@@ -88,6 +89,7 @@ pub fn of_number(number: u32) -> Named
 }
 
 // The scheme that a kind of entry names.
+#[tactic(auto, unfolding(crate::specs::Naming::kind_names, crate::specs::Naming::first_with, crate::specs::Naming::schemes, crate::specs::Naming::kind_of, crate::specs::Naming::row_of))]
 pub fn of_kind(kind: u8) -> Named
     ensures { result ≡ kind_names kind }
 {

@@ -1,9 +1,10 @@
 -- `decode` meets its contract: each test answers in its turn, and what passes them all is stored.
-use mathlib.Core.Path.{sym, ap, ◌∙◌}
-use mathlib.Core.Bool.{not}
+use mathlib.Core.Path.{◌≡◌, sym, ap, ◌∙◌}
+use mathlib.Core.Bool.{false, not}
 use native.Mathlib.Omega.{arith}
 use lib.ListN.{length}
 use borrow.Author.Tests.{not-false}
+use borrow.Author.Rules.{rules}
 use Rattle.basis.specs.Outcome.{done}
 use Rattle.basis.proofs.Outcome.{stop-given, pass-given, stop-found, pass-found, refusal-leaves, done-leaves}
 use Rattle.utf16.specs.Answer.{points_outcome}
@@ -36,9 +37,10 @@ pub returns-then-not-readable : goal.returns-then-not-readable
 unfolding points_outcome decode_outcome
 returns-then-not-readable c =
     let l = c.args.label.now in
+    let no : c.label_has_edge_hyphen-edge_hyphen.result ≡ false = search rules in
     two_clauses (λ a b. record { result_value = a; text_after = b }) (refusal-leaves (decode_outcome _ l) _ _ _ 9 0 (ap points_outcome c.points_error-then-not-readable.ensures)
     (check-passes _ _ c.check_label-check.ensures _ c.in-Passed.is ∙ pass-found 7 (length l) _ _ _ c.first_outside-bad.ensures (omega arith)
-    ∙ pass-given 5 0 _ _ _ c.label_has_edge_hyphen-edge_hyphen.ensures c.if-edge_hyphen.false ∙ stop-given 9 0 _ _ _ (ap not c.is_readable-readable.ensures) c.if-not-readable.true-raw))
+    ∙ pass-given 5 0 _ _ _ c.label_has_edge_hyphen-edge_hyphen.ensures no ∙ stop-given 9 0 _ _ _ (ap not c.is_readable-readable.ensures) c.if-not-readable.true-raw))
 
 pub put_text-requires : goal.put_text-requires
 put_text-requires c =

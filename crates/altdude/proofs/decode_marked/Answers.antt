@@ -21,14 +21,14 @@ returns-then-marks-lt63 c =
 pub put_marks-requires : goal.put_marks-requires
 unfolding points_outcome
 put_marks-requires c =
-    omega (arith, c.if-marks-lt63.false, (accepted-has _ _ _ (sym c.decode-answer.ensures.result_value ∙ ap points_outcome c.in-Points.is)).0)
+    omega (arith, (accepted-has _ _ _ (sym c.decode-answer.ensures.result_value ∙ ap points_outcome c.in-Points.is)).0)
 
 pub returns-in-Error : goal.returns-in-Error
 unfolding points_outcome decode_marked_outcome
 returns-in-Error c =
     let a = c.args in
     let l = a.label.now in
-    three_clauses (λ a b d. record { result_value = a; text_after = b; marks_after = d }) (decoded-refused (decode_outcome (length a.text.now) l) (text_of l) (marks_of l) a.text.now a.marks.now (length a.marks.now) (omega (arith, c.if-marks-lt63.false))
+    three_clauses (λ a b d. record { result_value = a; text_after = b; marks_after = d }) (decoded-refused (decode_outcome (length a.text.now) l) (text_of l) (marks_of l) a.text.now a.marks.now (length a.marks.now) (omega arith)
     _ c.decode-answer.ensures.text_after _ _ (sym c.decode-answer.ensures.result_value ∙ ap points_outcome c.in-Error.is) _ (ap points_outcome c.points_error-in-Error.ensures))
 
 pub returns-in-Points : goal.returns-in-Points
@@ -38,5 +38,5 @@ returns-in-Points c =
     let l = a.label.now in
     let answered = sym c.decode-answer.ensures.result_value ∙ ap points_outcome c.in-Points.is in
     let count = (accepted-has _ _ _ answered).1 ∙ sym (as-many-marks l) in
-    three_clauses (λ a b d. record { result_value = a; text_after = b; marks_after = d }) (decoded-done (decode_outcome (length a.text.now) l) (text_of l) (marks_of l) a.text.now a.marks.now (length a.marks.now) (omega (arith, c.if-marks-lt63.false))
+    three_clauses (λ a b d. record { result_value = a; text_after = b; marks_after = d }) (decoded-done (decode_outcome (length a.text.now) l) (text_of l) (marks_of l) a.text.now a.marks.now (length a.marks.now) (omega arith)
     _ c.decode-answer.ensures.text_after _ answered _ (rw (← count) at c.put_marks.ensures))

@@ -2,11 +2,11 @@
 use mathlib.Core.Path.{sym, ap, ◌∙◌}
 use native.Mathlib.Omega.{arith}
 use Rattle.basis.specs.Outcome.{done, bytes_outcome}
-use Rattle.basis.proofs.Outcome.{stop-given, pass-given, stop-below, pass_below, refusal-leaves, done-leaves}
+use Rattle.basis.proofs.Outcome.{stop-given, pass-given, pass_below, refusal-leaves, done-leaves}
 use Rattle.basis.proofs.Parts.{front_long}
 use Rattle.altdude.specs.Encoding.{label_of}
 use Rattle.altdude.specs.Answer.{label_outcome}
-use Rattle.altdude.proofs.EncodeLaws.{label-long, label-short}
+use Rattle.altdude.proofs.EncodeLaws.{label-short}
 use Rattle.altdude.proofs.MarkLaws.{raised-front}
 use Rattle.basis.proofs.Clauses.{two_clauses}
 use Rattle.altdude.proofs.encode_checked.Goals as goal
@@ -15,12 +15,6 @@ pub returns-then-edge : goal.returns-then-edge
 unfolding bytes_outcome
 returns-then-edge c =
     two_clauses (λ a b. record { result_value = a; label_after = b }) (refusal-leaves (label_outcome _) _ _ _ 5 0 (ap bytes_outcome c.bytes_error.ensures) (stop-given 5 0 _ _ _ c.text_has_edge_hyphen-edge.ensures c.if-edge.true))
-
-pub returns-then-length-gt63 : goal.returns-then-length-gt63
-unfolding bytes_outcome
-returns-then-length-gt63 c =
-    two_clauses (λ a b. record { result_value = a; label_after = b }) (refusal-leaves (label_outcome _) _ _ _ 3 0 (ap bytes_outcome c.bytes_error-then-length-gt63.ensures)
-    (pass-given 5 0 _ _ _ c.text_has_edge_hyphen-edge.ensures c.if-edge.false ∙ stop-below 3 0 _ 63 _ (label-long _ _ c.label_length-length.ensures (omega arith))))
 
 pub put_label-count-requires : goal.put_label-count-requires
 put_label-count-requires c = omega (arith, c.requires, label-short _ _ c.label_length-length.ensures (omega arith))

@@ -4,14 +4,9 @@ use native.Mathlib.Omega.{arith}
 use Rattle.basis.specs.Outcome.{bytes_outcome}
 use Rattle.basis.proofs.Outcome.{refusal-leaves}
 use Rattle.brace.specs.Answer.{encode_outcome}
-use Rattle.brace_symbols.proofs.Labels.{stop-capacity, pass-capacity, symbols-few, symbols-fit, symbols-long, label-put}
+use Rattle.brace_symbols.proofs.Labels.{pass-capacity, symbols-few, symbols-fit, symbols-long, label-put}
 use Rattle.basis.proofs.Clauses.{two_clauses}
 use Rattle.brace.proofs.encode.Goals as goal
-
-pub returns-then-label-lt63 : goal.returns-then-label-lt63
-unfolding bytes_outcome
-returns-then-label-lt63 c =
-    two_clauses (λ a b. record { result_value = a; label_after = b }) (refusal-leaves (encode_outcome _ _) _ _ _ 1 0 (ap bytes_outcome c.bytes_error.ensures) (stop-capacity _ _ c.if-label-lt63.true))
 
 pub slice_bounds-symbols-end : goal.slice_bounds-symbols-end
 unfolding bytes_outcome
@@ -27,15 +22,15 @@ pub put_bytes-written-requires : goal.put_bytes-written-requires
 unfolding bytes_outcome
 put_bytes-written-requires c =
     let n = ap bytes_outcome c.in-Bytes.is in
-    omega (arith, symbols-long _ _ _ _ (c.put_symbols-answer.ensures.result_value, c.put_symbols-answer.ensures.symbols_after) _ n, symbols-few _ _ _ _ (c.put_symbols-answer.ensures.result_value, c.put_symbols-answer.ensures.symbols_after) _ n, c.if-label-lt63.false)
+    omega (arith, symbols-long _ _ _ _ (c.put_symbols-answer.ensures.result_value, c.put_symbols-answer.ensures.symbols_after) _ n, symbols-few _ _ _ _ (c.put_symbols-answer.ensures.result_value, c.put_symbols-answer.ensures.symbols_after) _ n)
 
 pub returns-in-Error : goal.returns-in-Error
 unfolding bytes_outcome
 returns-in-Error c =
     two_clauses (λ a b. record { result_value = a; label_after = b }) (refusal-leaves (encode_outcome _ _) _ _ _ _ _ (ap bytes_outcome c.bytes_error-in-Error.ensures)
-    (pass-capacity _ _ c.if-label-lt63.false ∙ sym c.put_symbols-answer.ensures.result_value ∙ ap bytes_outcome c.in-Error.is))
+    (pass-capacity _ _ (omega arith) ∙ sym c.put_symbols-answer.ensures.result_value ∙ ap bytes_outcome c.in-Error.is))
 
 pub returns-in-Bytes : goal.returns-in-Bytes
 unfolding bytes_outcome
 returns-in-Bytes c =
-    two_clauses (λ a b. record { result_value = a; label_after = b }) (label-put _ _ _ _ (c.put_symbols-answer.ensures.result_value, c.put_symbols-answer.ensures.symbols_after) _ (ap bytes_outcome c.in-Bytes.is) _ _ _ c.if-label-lt63.false (c.put_bytes-written.ensures.value, c.put_bytes-written.ensures.label_after))
+    two_clauses (λ a b. record { result_value = a; label_after = b }) (label-put _ _ _ _ (c.put_symbols-answer.ensures.result_value, c.put_symbols-answer.ensures.symbols_after) _ (ap bytes_outcome c.in-Bytes.is) _ _ _ (omega arith) (c.put_bytes-written.ensures.value, c.put_bytes-written.ensures.label_after))

@@ -1,5 +1,4 @@
 -- The first tests answer, and then the reader with the signature or without it.
-use mathlib.Core.Path.{sym, ◌∙◌}
 use Rattle.basis.proofs.Outcome.{refused-leaves}
 use Rattle.utf16.specs.Answer.{units_outcome}
 use Rattle.labels.proofs.FirstTests.{check-stops, label-checked}
@@ -18,12 +17,12 @@ pub decode_signed-requires : goal.decode_signed-requires
 decode_signed-requires c =
     record {
       in_bounds = label-sizes _ _ (label-checked _ c.in-Passed.is _ _ c.check_label-check.ensures);
-      label_value = sym c.label_is_signed.ensures ∙ c.if-label_is_signed.true;
+      label_value = cc;
     }
 
 pub decode_plain-requires : goal.decode_plain-requires
 decode_plain-requires c =
     record {
       in_bounds = label-sizes _ _ (label-checked _ c.in-Passed.is _ _ c.check_label-check.ensures);
-      label_value = sym c.label_is_signed.ensures ∙ c.if-label_is_signed.false;
+      label_value = cc;
     }

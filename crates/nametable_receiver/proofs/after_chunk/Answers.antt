@@ -1,5 +1,5 @@
 -- `after_chunk` meets its contract: byte by byte.
-use Prim.Native.Nat.{◌-◌, ◌+◌}
+use Prim.Native.Nat.{◌+◌}
 use mathlib.Core.Path.{refl, sym, ap, ◌∙◌}
 use lib.ListN.{drop}
 use native.Mathlib.Omega.{arith}

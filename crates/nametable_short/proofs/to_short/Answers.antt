@@ -1,6 +1,7 @@
 -- `to_short` meets its contract: the table's own refusal, or what moving a whole table answers.
 use mathlib.Core.Path.{sym, ap, ◌∙◌}
-use Rattle.basis.specs.Outcome.{bytes_outcome}
+use borrow.Author.Rules.{rules}
+use Rattle.basis.specs.Outcome.{bytes_outcome, number_of}
 use Rattle.basis.proofs.Outcome.{refusal-leaves}
 use Rattle.nametable.specs.Answer.{table_outcome}
 use Rattle.nametable_short.specs.Answer.{to_short_outcome}
@@ -15,7 +16,7 @@ put_short_table-requires c = sym c.read-verdict.ensures ∙ ap table_outcome c.i
 pub returns-in-Error : goal.returns-in-Error
 unfolding bytes_outcome table_outcome to_short_outcome
 returns-in-Error c =
-    two_clauses (λ a b. record { result_value = a; short_after = b }) (refusal-leaves _ _ _ _ _ _ (ap bytes_outcome c.bytes_error.ensures) (move-refused _ _ _ (sym c.read-verdict.ensures ∙ ap table_outcome c.in-Error.is)))
+    two_clauses (λ a b. record { result_value = a; short_after = b }) (refusal-leaves _ _ _ _ (number_of c.in-Error.code) c.in-Error.position (search rules) (move-refused _ _ _ (sym c.read-verdict.ensures ∙ ap table_outcome c.in-Error.is)))
 
 pub returns-in-Entries : goal.returns-in-Entries
 unfolding bytes_outcome table_outcome to_short_outcome

@@ -1,5 +1,4 @@
 -- `put_fitted` meets its contract: the room before i is filled.
-use Prim.Native.Nat.{◌-◌}
 use mathlib.Core.Path.{refl}
 use native.Mathlib.Omega.{arith}
 use lib.ListN.{length-set}

@@ -1,16 +1,12 @@
 -- `put_long` meets its contract: a buffer of another length is left; else the four bytes before the
 -- room, then the room.
-use mathlib.Core.Path.{refl, sym, ap, ◌∙◌}
+use mathlib.Core.Path.{◌≡◌, refl, sym, ap, ◌∙◌}
 use mathlib.Core.List.{[], ◌∷◌}
 use native.Mathlib.Omega.{arith}
 use lib.ListN.{length, length-set}
 use Rattle.nametable_short_format.specs.Format.{long_of}
-use Rattle.nametable_short_format.proofs.EntryLaws.{room-long, long-stored, long-size, filled-other, filled-own, length-filled}
+use Rattle.nametable_short_format.proofs.EntryLaws.{room-long, long-stored, long-size, filled-own, length-filled}
 use Rattle.nametable_short_format.proofs.put_long.Goals as goal
-
-pub returns-then-entry-ne-ENTRY_LENGTH : goal.returns-then-entry-ne-ENTRY_LENGTH
-returns-then-entry-ne-ENTRY_LENGTH c =
-    filled-other (long_of c.args.short.now) c.args.entry.now (λ e. c.if-entry-ne-ENTRY_LENGTH.true (e ∙ long-size c.args.short.now))
 
 pub bounds-entry-1 : goal.bounds-entry-1
 bounds-entry-1 c = simp length-set (omega arith)
@@ -29,7 +25,7 @@ slice_bounds-put_fitted-start c = simp length-set (omega arith)
 
 pub put_fitted-requires : goal.put_fitted-requires
 put_fitted-requires c =
-    let own = c.if-entry-ne-ENTRY_LENGTH.false in
+    let own : length c.args.entry.now ≡ 67 = omega arith in
     record {
       start_le_short_label_start = omega arith;
       room_len_bound = omega (arith, own, room-long (c.long_kind.result ∷ c.byte_at-2.result ∷ c.byte_at-3.result ∷ c.byte_at-4.result ∷ []) c.args.entry.now _ 4 refl (omega (arith, own)) refl);
@@ -37,9 +33,9 @@ put_fitted-requires c =
 
 pub shape_of-entry : goal.shape_of-entry
 shape_of-entry c =
-    ap length (long-stored c.args.short.now c.args.entry.now _ _ c.if-entry-ne-ENTRY_LENGTH.false c.byte_at.ensures c.long_kind.ensures c.byte_at-2.ensures c.byte_at-3.ensures c.byte_at-4.ensures refl c.put_fitted.ensures ∙ sym (filled-own _ _ (c.if-entry-ne-ENTRY_LENGTH.false ∙ sym (long-size _)))) ∙ length-filled _ _
+    ap length (long-stored c.args.short.now c.args.entry.now _ _ (omega arith) c.byte_at.ensures c.long_kind.ensures c.byte_at-2.ensures c.byte_at-3.ensures c.byte_at-4.ensures refl c.put_fitted.ensures ∙ sym (filled-own (long_of c.args.short.now) c.args.entry.now (omega (arith, long-size c.args.short.now)))) ∙ length-filled _ _
 
 pub returns : goal.returns
 returns c =
-    long-stored c.args.short.now c.args.entry.now _ _ c.if-entry-ne-ENTRY_LENGTH.false c.byte_at.ensures c.long_kind.ensures c.byte_at-2.ensures c.byte_at-3.ensures c.byte_at-4.ensures refl c.put_fitted.ensures
-    ∙ sym (filled-own _ _ (c.if-entry-ne-ENTRY_LENGTH.false ∙ sym (long-size _)))
+    long-stored c.args.short.now c.args.entry.now _ _ (omega arith) c.byte_at.ensures c.long_kind.ensures c.byte_at-2.ensures c.byte_at-3.ensures c.byte_at-4.ensures refl c.put_fitted.ensures
+    ∙ sym (filled-own (long_of c.args.short.now) c.args.entry.now (omega (arith, long-size c.args.short.now)))

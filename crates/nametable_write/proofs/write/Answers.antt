@@ -1,7 +1,8 @@
 -- `write` meets its contract: the room, the rows and the entries in turn, then the table.
-use mathlib.Core.Path.{sym, ap, ◌∙◌}
+use mathlib.Core.Path.{refl, sym, ap, ◌∙◌}
 use native.Mathlib.Omega.{arith}
 use lib.ListN.{length}
+use borrow.Author.Rules.{rules}
 use Rattle.basis.specs.Outcome.{bytes_outcome}
 use Rattle.basis.proofs.Outcome.{refusal-leaves}
 use Rattle.nametable_write.proofs.WriteLaws.{listed-rows, no_room, has_room, no-list, entries-decide, judged-spelled, table-left}
@@ -12,15 +13,15 @@ pub returns-then-lacks_room : goal.returns-then-lacks_room
 unfolding bytes_outcome
 returns-then-lacks_room c =
     let a = c.args in
-    two_clauses (λ a b. record { result_value = a; table_after = b }) (refusal-leaves _ _ _ _ 1 0 (ap bytes_outcome c.bytes_error.ensures)
+    two_clauses (λ a b. record { result_value = a; table_after = b }) (refusal-leaves _ _ _ _ 1 0 (search rules)
     (no_room a.readers.now a.schemes.now a.lengths.now a.points.now (length a.table.now) c.lacks_room.ensures c.if-lacks_room.true))
 
 pub returns-then-not-is_list : goal.returns-then-not-is_list
 unfolding bytes_outcome
 returns-then-not-is_list c =
     let a = c.args in
-    two_clauses (λ a b. record { result_value = a; table_after = b }) (refusal-leaves _ _ _ _ 14 0 (ap bytes_outcome c.bytes_error-then-not-is_list.ensures)
-    (no-list a.readers.now a.schemes.now a.lengths.now a.points.now (length a.table.now) c.lacks_room.ensures c.if-lacks_room.false c.is_list.result c.is_list.ensures c.if-not-is_list.true-raw))
+    two_clauses (λ a b. record { result_value = a; table_after = b }) (refusal-leaves _ _ _ _ 14 0 (search rules)
+    (no-list a.readers.now a.schemes.now a.lengths.now a.points.now (length a.table.now) refl (cc) c.is_list.result c.is_list.ensures c.if-not-is_list.true-raw))
 
 pub judge_list-judged-requires : goal.judge_list-judged-requires
 judge_list-judged-requires c = listed-rows _ _ _ _ c.is_list.result c.is_list.ensures c.if-not-is_list.false-raw

@@ -20,21 +20,21 @@ pub returns-then-points-n : goal.returns-then-points-n
 unfolding points_outcome to_points_outcome
 returns-then-points-n c =
     let a = c.args in
-    two_clauses (λ a b. record { result_value = a; points_after = b }) (room-leaves (length a.units.now) a.count.0 a.count.0 (length a.points.now) _ 10 _ (omega (arith, c.if-units-n.false)) _ _ (omega (arith, c.if-points-n.true)))
+    two_clauses (λ a b. record { result_value = a; points_after = b }) (room-leaves (length a.units.now) a.count.0 a.count.0 (length a.points.now) _ 10 _ (omega arith) _ _ (omega arith))
 
 pub returns-then-unpaired-n : goal.returns-then-unpaired-n
 unfolding points_outcome to_points_outcome
 returns-then-unpaired-n c =
     let a = c.args in
-    two_clauses (λ a b. record { result_value = a; points_after = b }) (element-leaves (length a.units.now) a.count.0 a.count.0 (length a.points.now) _ 10 _ (omega (arith, c.if-units-n.false)) (omega (arith, c.if-points-n.false)) _ c.first_unpaired-unpaired.ensures _ _ c.if-unpaired-n.true)
+    two_clauses (λ a b. record { result_value = a; points_after = b }) (element-leaves (length a.units.now) a.count.0 a.count.0 (length a.points.now) _ 10 _ (omega arith) (omega arith) _ c.first_unpaired-unpaired.ensures _ _ c.if-unpaired-n.true)
 
 pub put_points-written-requires : goal.put_points-written-requires
 put_points-written-requires c =
     let h = c.if-units-n.false in
-    rw length-take-le (omega (arith, c.if-points-n.false))
+    rw length-take-le (omega arith)
 
 pub returns : goal.returns
 unfolding points_outcome to_points_outcome
 returns c =
     let a = c.args in
-    two_clauses (λ a b. record { result_value = a; points_after = b }) (all-leaves (length a.units.now) a.count.0 a.count.0 (length a.points.now) _ 10 _ (omega (arith, c.if-units-n.false)) (omega (arith, c.if-points-n.false)) _ c.first_unpaired-unpaired.ensures _ _ c.if-unpaired-n.false _ _ (c.put_points-written.ensures.value, c.put_points-written.ensures.points_after))
+    two_clauses (λ a b. record { result_value = a; points_after = b }) (all-leaves (length a.units.now) a.count.0 a.count.0 (length a.points.now) _ 10 _ (omega arith) (omega arith) _ c.first_unpaired-unpaired.ensures _ _ c.if-unpaired-n.false _ _ (c.put_points-written.ensures.value, c.put_points-written.ensures.points_after))

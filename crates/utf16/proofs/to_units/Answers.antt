@@ -21,24 +21,24 @@ pub returns-then-units-needed : goal.returns-then-units-needed
 unfolding units_outcome to_units_outcome
 returns-then-units-needed c =
     let a = c.args in
-    two_clauses (λ a b. record { result_value = a; units_after = b }) (room-leaves (length a.points.now) a.count.0 (2 * a.count.0) (length a.units.now) _ 4 _ (omega (arith, c.if-points-n.false)) _ _ (omega (arith, c.if-units-needed.true)))
+    two_clauses (λ a b. record { result_value = a; units_after = b }) (room-leaves (length a.points.now) a.count.0 (2 * a.count.0) (length a.units.now) _ 4 _ (omega arith) _ _ (omega arith))
 
 pub returns-then-bad-n : goal.returns-then-bad-n
 unfolding units_outcome to_units_outcome
 returns-then-bad-n c =
     let a = c.args in
-    two_clauses (λ a b. record { result_value = a; units_after = b }) (element-leaves (length a.points.now) a.count.0 (2 * a.count.0) (length a.units.now) _ 4 _ (omega (arith, c.if-points-n.false)) (omega (arith, c.if-units-needed.false)) _ c.first_not_point-bad.ensures _ _ c.if-bad-n.true)
+    two_clauses (λ a b. record { result_value = a; units_after = b }) (element-leaves (length a.points.now) a.count.0 (2 * a.count.0) (length a.units.now) _ 4 _ (omega arith) (omega arith) _ c.first_not_point-bad.ensures _ _ (omega arith))
 
 pub put_units-written-requires : goal.put_units-written-requires
 put_units-written-requires c =
     let h = c.if-points-n.false in
     record {
-      points_in_bounds = rw length-take-le (omega (arith, c.if-units-needed.false));
-      points_value = text-judged _ _ _ h c.first_not_point-bad.ensures (omega (arith, c.if-bad-n.false));
+      points_in_bounds = rw length-take-le (omega arith);
+      points_value = text-judged _ _ _ h c.first_not_point-bad.ensures (omega arith);
     }
 
 pub returns : goal.returns
 unfolding units_outcome to_units_outcome
 returns c =
     let a = c.args in
-    two_clauses (λ a b. record { result_value = a; units_after = b }) (all-leaves (length a.points.now) a.count.0 (2 * a.count.0) (length a.units.now) _ 4 _ (omega (arith, c.if-points-n.false)) (omega (arith, c.if-units-needed.false)) _ c.first_not_point-bad.ensures _ _ c.if-bad-n.false _ _ (c.put_units-written.ensures.value, c.put_units-written.ensures.units_after))
+    two_clauses (λ a b. record { result_value = a; units_after = b }) (all-leaves (length a.points.now) a.count.0 (2 * a.count.0) (length a.units.now) _ 4 _ (omega arith) (omega arith) _ c.first_not_point-bad.ensures _ _ (omega arith) _ _ (c.put_units-written.ensures.value, c.put_units-written.ensures.units_after))

@@ -23,4 +23,4 @@ returns-then-value-gt2097151 c =
 pub returns : goal.returns
 returns c =
     let a = c.args in
-    goes-leading _ a.pending a.symbol c.if-symbol-lt16.false c.if-symbol-eq45.false c.requires.0 c.if-symbol-gt31.false c.if-value-eq0.false (omega (arith, c.if-value-gt2097151.false))
+    goes-leading _ a.pending a.symbol c.if-symbol-lt16.false c.if-symbol-eq45.false c.requires.0 c.if-symbol-gt31.false c.if-value-eq0.false (omega arith)

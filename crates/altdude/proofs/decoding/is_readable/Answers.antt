@@ -1,5 +1,4 @@
 -- `decoding::is_readable` meets its contract. What is left of the label can be read from the state exactly when the label can.
-use Prim.Native.Nat.{◌-◌}
 use mathlib.Core.Path.{refl}
 use native.Mathlib.Omega.{arith}
 use Rattle.altdude.proofs.DecodeLaws.{symbol-small, reading-start, reading-end, reading-stop, reading-turn}

@@ -1,5 +1,4 @@
 -- `decoding::put_text` meets its contract. What is left of the label can be read, and what is left of the text is still to be stored.
-use Prim.Native.Nat.{◌-◌}
 use mathlib.Core.Path.{refl, sym}
 use native.Mathlib.Omega.{arith}
 use Rattle.basis.proofs.Tests.{true-not-false}

@@ -1,5 +1,4 @@
 -- `encoding::label_length` meets its contract: n symbols are counted, those of the points from i on are left.
-use Prim.Native.Nat.{◌-◌}
 use native.Mathlib.Omega.{arith}
 use Rattle.altdude.proofs.EncodeLaws.{item-within, count-start, count_turn, count-end}
 use Rattle.altdude.proofs.encoding.label_length.Goals as goal

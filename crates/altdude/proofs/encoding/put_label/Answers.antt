@@ -1,5 +1,4 @@
 -- `encoding::put_label` meets its contract: the symbols of the points from `done` on are left to store, from index `at` on.
-use Prim.Native.Nat.{◌-◌}
 use native.Mathlib.Omega.{arith}
 use Rattle.altdude.proofs.EncodeLaws.{item-fits, store-start, store-turn, store-end}
 use Rattle.basis.proofs.Clauses.{two_clauses}

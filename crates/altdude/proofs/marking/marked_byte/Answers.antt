@@ -1,5 +1,6 @@
 -- `marking::marked_byte` meets its contract: a byte that ends an item with the mark 1 becomes a capital.
 use mathlib.Core.Path.{◌∙◌}
+use native.Mathlib.Omega.{arith}
 use Rattle.altdude.proofs.MarkLaws.{ends-none, ends-one, byte_inside, byte-raised, byte-unmarked}
 use Rattle.altdude.proofs.marking.marked_byte.Goals as goal
 
@@ -12,4 +13,4 @@ returns-then-mark-eq1 c =
 
 pub returns : goal.returns
 returns c =
-    byte-unmarked _ _ (ends-one _ _ c.items_ended.ensures.value c.if-items_ended-eq0.false) c.if-mark-eq1.false
+    byte-unmarked _ _ (ends-one _ _ c.items_ended.ensures.value c.if-items_ended-eq0.false) (λ e. omega arith)

@@ -1,5 +1,4 @@
 -- `marking::put_marks` meets its contract. What is left of the marks is still to be stored.
-use Prim.Native.Nat.{◌-◌}
 use native.Mathlib.Omega.{arith}
 use Rattle.altdude.proofs.MarkLaws.{showing-start, showing-turn, showing-end}
 use Rattle.altdude.proofs.marking.put_marks.Goals as goal

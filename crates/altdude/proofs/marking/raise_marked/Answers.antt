@@ -1,5 +1,4 @@
 -- `marking::raise_marked` meets its contract. What is left of the label with marks is still to be stored.
-use Prim.Native.Nat.{◌-◌}
 use native.Mathlib.Omega.{arith}
 use Rattle.altdude.proofs.MarkLaws.{raising-start, raising-turn, raising-over, raising-end}
 use Rattle.altdude.proofs.marking.raise_marked.Goals as goal

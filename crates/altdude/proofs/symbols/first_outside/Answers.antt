@@ -1,5 +1,4 @@
 -- `symbols::first_outside` meets its contract: every byte passed is a hyphen or one of the 32.
-use Prim.Native.Nat.{◌-◌}
 use mathlib.Core.Path.{◌∙◌}
 use borrow.Author.Tests.{eq-eqb, ne_eqb}
 use native.Mathlib.Omega.{arith}

@@ -1,5 +1,4 @@
 -- The loop's invariant: the first i characters are before what the buffer held. Each turn stores one more.
-use Prim.Native.Nat.{◌-◌}
 use mathlib.Core.Path.{refl, ap, ◌∙◌}
 use native.Mathlib.Omega.{arith}
 use lib.ListN.{length-set}

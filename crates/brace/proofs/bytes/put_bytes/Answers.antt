@@ -1,5 +1,4 @@
 -- `bytes::put_bytes` meets its contract: i bytes are stored, the others are left.
-use Prim.Native.Nat.{◌-◌}
 use native.Mathlib.Omega.{arith}
 use Rattle.basis.proofs.Stores.{storing-all}
 use Rattle.brace_symbols.proofs.Labels.{row-turn, row-end, length-bytes, byte_at}

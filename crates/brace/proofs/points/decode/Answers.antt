@@ -14,9 +14,9 @@ returns-then-text-lt-TEXT_UNITS c =
 pub returns-in-Error : goal.returns-in-Error
 unfolding points_outcome units_outcome
 returns-in-Error c =
-    two_clauses (λ a b. record { result_value = a; text_after = b }) (refusal-leave _ _ _ _ (omega (arith, c.if-text-lt-TEXT_UNITS.false)) (sym c.decode-answer.ensures.result_value ∙ ap units_outcome c.in-Error.is) _ _ (ap points_outcome c.points_error-in-Error.ensures))
+    two_clauses (λ a b. record { result_value = a; text_after = b }) (refusal-leave _ _ _ _ (omega arith) (sym c.decode-answer.ensures.result_value ∙ ap units_outcome c.in-Error.is) _ _ (ap points_outcome c.points_error-in-Error.ensures))
 
 pub returns-in-Units : goal.returns-in-Units
 unfolding units_outcome
 returns-in-Units c =
-    two_clauses (λ a b. record { result_value = a; text_after = b }) (points-leave _ _ _ _ _ (omega (arith, c.if-text-lt-TEXT_UNITS.false)) (sym c.decode-answer.ensures.result_value ∙ ap units_outcome c.in-Units.is) c.decode-answer.ensures.units_after _ _ _ (c.to_points.ensures.result_value, c.to_points.ensures.points_after))
+    two_clauses (λ a b. record { result_value = a; text_after = b }) (points-leave _ _ _ _ _ (omega arith) (sym c.decode-answer.ensures.result_value ∙ ap units_outcome c.in-Units.is) c.decode-answer.ensures.units_after _ _ _ (c.to_points.ensures.result_value, c.to_points.ensures.points_after))

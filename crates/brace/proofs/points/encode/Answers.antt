@@ -23,25 +23,25 @@ unfolding bytes_outcome encode_outcome
 returns-then-text-gt-TEXT_UNITS c =
     let checked = text-checked _ c.in-Passed.is _ _ c.check_text-check.ensures in
     two_clauses (λ a b. record { result_value = a; label_after = b }) (refusal-leaves (encode_outcome _ _) _ _ _ 3 0 (ap bytes_outcome c.bytes_error-then-text-gt-TEXT_UNITS.ensures)
-    (check-passes _ _ c.check_text-check.ensures _ c.in-Passed.is ∙ points-long _ _ checked (omega (arith, c.if-text-gt-TEXT_UNITS.true))))
+    (check-passes _ _ c.check_text-check.ensures _ c.in-Passed.is ∙ points-long _ _ checked (omega arith)))
 
 pub slice_bounds-units-end : goal.slice_bounds-units-end
 unfolding units_outcome
-slice_bounds-units-end c = units-fit (converts _ (text-checked _ c.in-Passed.is _ _ c.check_text-check.ensures).points _ _ c.to_units-answer.ensures.result_value (omega (arith, c.if-text-gt-TEXT_UNITS.false)) _ _ c.to_units-answer.ensures.units_after) (ap units_outcome c.in-Units.is)
+slice_bounds-units-end c = units-fit (converts _ (text-checked _ c.in-Passed.is _ _ c.check_text-check.ensures).points _ _ c.to_units-answer.ensures.result_value (omega arith) _ _ c.to_units-answer.ensures.units_after) (ap units_outcome c.in-Units.is)
 
 pub slice_bounds-encode-end : goal.slice_bounds-encode-end
 unfolding units_outcome
-slice_bounds-encode-end c = units-long (converts _ (text-checked _ c.in-Passed.is _ _ c.check_text-check.ensures).points _ _ c.to_units-answer.ensures.result_value (omega (arith, c.if-text-gt-TEXT_UNITS.false)) _ _ c.to_units-answer.ensures.units_after) (ap units_outcome c.in-Units.is)
+slice_bounds-encode-end c = units-long (converts _ (text-checked _ c.in-Passed.is _ _ c.check_text-check.ensures).points _ _ c.to_units-answer.ensures.result_value (omega arith) _ _ c.to_units-answer.ensures.units_after) (ap units_outcome c.in-Units.is)
 
 pub returns-in-Error-answer : goal.returns-in-Error-answer
 unfolding units_outcome
 returns-in-Error-answer c =
-    absurd (not-refused (converts _ (text-checked _ c.in-Passed.is _ _ c.check_text-check.ensures).points _ _ c.to_units-answer.ensures.result_value (omega (arith, c.if-text-gt-TEXT_UNITS.false)) _ _ c.to_units-answer.ensures.units_after) (ap units_outcome c.in-Error-answer.is))
+    absurd (not-refused (converts _ (text-checked _ c.in-Passed.is _ _ c.check_text-check.ensures).points _ _ c.to_units-answer.ensures.result_value (omega arith) _ _ c.to_units-answer.ensures.units_after) (ap units_outcome c.in-Error-answer.is))
 
 pub returns-in-Units : goal.returns-in-Units
 unfolding units_outcome encode_outcome label_of
 returns-in-Units c =
-    let us = units-are (converts _ (text-checked _ c.in-Passed.is _ _ c.check_text-check.ensures).points _ _ c.to_units-answer.ensures.result_value (omega (arith, c.if-text-gt-TEXT_UNITS.false)) _ _ c.to_units-answer.ensures.units_after) (ap units_outcome c.in-Units.is) in
+    let us = units-are (converts _ (text-checked _ c.in-Passed.is _ _ c.check_text-check.ensures).points _ _ c.to_units-answer.ensures.result_value (omega arith) _ _ c.to_units-answer.ensures.units_after) (ap units_outcome c.in-Units.is) in
     two_clauses (λ a b. record { result_value = a; label_after = b }) (handed-leaves (encode_outcome _ _) _ _ _ _ _ _
     (check-passes _ _ c.check_text-check.ensures _ c.in-Passed.is ∙ ap (answer.encode_outcome _) (sym us))
     (ap encoding.label_of (sym us)) (c.encode.ensures.result_value, c.encode.ensures.label_after))

@@ -1,5 +1,4 @@
 -- Rows of other lengths differ; the bytes before `i` are read as the symbols before it.
-use Prim.Native.Nat.{◌-◌}
 use borrow.Author.Tests.{not-true, not-false}
 use native.Mathlib.Omega.{arith}
 use Rattle.brace_decoding.proofs.Comparison.{lengths_differ, compared-start, compared-turn, compared-stop, compared-end}

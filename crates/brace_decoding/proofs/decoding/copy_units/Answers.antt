@@ -1,5 +1,4 @@
 -- What is left are the units from `i` on.
-use Prim.Native.Nat.{◌-◌}
 use native.Mathlib.Omega.{arith}
 use Rattle.basis.proofs.Stores.{storing-all}
 use Rattle.basis.proofs.Copying.{row-turn, row-filled}

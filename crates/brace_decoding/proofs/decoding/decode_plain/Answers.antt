@@ -1,6 +1,7 @@
 -- The two tests answer in their turn, and what passes them is its own text.
 use mathlib.Core.Path.{sym, ap, ◌∙◌}
 use lib.ListN.{length}
+use native.Mathlib.Omega.{arith}
 use Rattle.basis.proofs.Outcome.{stop-found, pass-found, stop-given, pass-given, refused-leaves, done-leaves}
 use Rattle.utf16.specs.Answer.{units_outcome}
 use Rattle.brace_decoding.specs.Answer.{decode_outcome}
@@ -21,7 +22,7 @@ unfolding units_outcome
 returns-then-edge_hyphen c =
     let l = c.args.label.now in
     two_clauses (λ a b. record { result_value = a; units_after = b }) (refused-leaves (decode_outcome _ l) _ _ 5 0
-    (plain-outcome _ l c.requires.in_bounds c.requires.label_value ∙ pass-found 7 (length l) _ _ _ c.first_not_ldh-bad.ensures c.if-bad-label.false
+    (plain-outcome _ l c.requires.in_bounds c.requires.label_value ∙ pass-found 7 (length l) _ _ _ c.first_not_ldh-bad.ensures (omega arith)
     ∙ stop-given 5 0 _ _ _ c.label_has_edge_hyphen-edge_hyphen.ensures c.if-edge_hyphen.true))
 
 pub returns : goal.returns

@@ -1,5 +1,4 @@
 -- `encoding::put_plain` meets its contract: i units are stored, the others are left.
-use Prim.Native.Nat.{◌-◌}
 use mathlib.Core.Path.{refl}
 use native.Mathlib.Omega.{arith}
 use Rattle.basis.proofs.Stores.{storing-all}

@@ -1,5 +1,4 @@
 -- `encoding::put_units` meets its contract: the symbols of the units from i on are left.
-use Prim.Native.Nat.{◌-◌}
 use native.Mathlib.Omega.{arith}
 use Rattle.brace_symbols.proofs.Units.{putting-start, unit-fits, putting-turn, putting-end}
 use Rattle.basis.proofs.Clauses.{two_clauses}

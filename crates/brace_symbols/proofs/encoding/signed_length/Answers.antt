@@ -1,5 +1,4 @@
 -- `encoding::signed_length` meets its contract: n symbols are counted, those of the units from i on are left.
-use Prim.Native.Nat.{◌-◌}
 use native.Mathlib.Omega.{arith}
 use Rattle.brace_symbols.proofs.Units.{tallying-start, tallying-over, tallying-turn, tallying-end}
 use Rattle.brace_symbols.proofs.encoding.signed_length.Goals as goal

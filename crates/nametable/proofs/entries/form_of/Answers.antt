@@ -25,9 +25,9 @@ returns-then-length-gt-LABEL_CAPACITY c =
 pub returns-then-not-is_zero : goal.returns-then-not-is_zero
 returns-then-not-is_zero c =
     not-filled _ _ c.of_kind-named.ensures c.in-Known.is c.number_at-reader.ensures.0
-    c.if-reader-least.false c.if-length-lt1.false c.if-length-gt-LABEL_CAPACITY.false c.requires c.is_zero.ensures c.if-not-is_zero.true-raw
+    c.if-reader-least.false c.if-length-lt1.false (omega arith) c.requires c.is_zero.ensures c.if-not-is_zero.true-raw
 
 pub returns : goal.returns
 returns c =
     lawful-form _ _ c.of_kind-named.ensures c.in-Known.is c.number_at-reader.ensures.0
-    c.if-reader-least.false c.if-length-lt1.false c.if-length-gt-LABEL_CAPACITY.false c.requires c.is_zero.ensures c.if-not-is_zero.false-raw
+    c.if-reader-least.false c.if-length-lt1.false (omega arith) c.requires c.is_zero.ensures c.if-not-is_zero.false-raw

@@ -1,5 +1,4 @@
 -- `entries::is_zero` meets its contract: every byte passed is zero.
-use Prim.Native.Nat.{◌-◌}
 use mathlib.Core.Path.{sym}
 use native.Mathlib.Omega.{arith}
 use borrow.Author.Count.{below_none, below_more}

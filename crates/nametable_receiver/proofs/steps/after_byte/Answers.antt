@@ -2,14 +2,8 @@
 -- or its last.
 use mathlib.Core.Path.{sym, ◌∙◌}
 use native.Mathlib.Omega.{arith}
-use Rattle.nametable_receiver.proofs.StepLaws.{stepped-past, stepped-header, stepped-stored, stepped-ended}
+use Rattle.nametable_receiver.proofs.StepLaws.{stepped-stored, stepped-ended}
 use Rattle.nametable_receiver.proofs.steps.after_byte.Goals as goal
-
-pub returns-then-total-gt-LONGEST_TABLE : goal.returns-then-total-gt-LONGEST_TABLE
-returns-then-total-gt-LONGEST_TABLE c = sym (stepped-past _ _ (omega arith))
-
-pub returns-then-total-lt-HEADER_LENGTH : goal.returns-then-total-lt-HEADER_LENGTH
-returns-then-total-lt-HEADER_LENGTH c = c.header_byte.ensures ∙ sym (stepped-header _ _ (omega arith))
 
 pub returns-then-state : goal.returns-then-state
 returns-then-state c = c.entry_byte.ensures ∙ sym (stepped-stored _ _ (omega arith) (omega arith) (omega arith))

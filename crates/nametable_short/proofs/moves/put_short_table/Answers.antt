@@ -24,14 +24,14 @@ returns-then-short-needed c =
 
 pub put_header-requires : goal.put_header-requires
 put_header-requires c =
-    let w = read_table c.args.table.now c.args.count c.requires in (omega (arith, w.long), omega (arith, c.short_bytes-needed.ensures, c.if-short-needed.false))
+    let w = read_table c.args.table.now c.args.count c.requires in (omega (arith, w.long), omega (arith, c.short_bytes-needed.ensures))
 
 pub put_short_entries-requires : goal.put_short_entries-requires
 put_short_entries-requires c =
     let w = read_table c.args.table.now c.args.count c.requires in
     record {
       table_len = (w.long, omega (arith, w.few, w.counted));
-      table_in_bounds = omega (arith, c.short_bytes-needed.ensures, c.if-short-needed.false, c.put_header.auto.moved);
+      table_in_bounds = omega (arith, c.short_bytes-needed.ensures, c.put_header.auto.moved);
     }
 
 pub returns : goal.returns
@@ -39,4 +39,4 @@ unfolding bytes_outcome to_short_outcome
 returns c =
     let a = c.args in
     let w = read_table a.table.now a.count c.requires in
-    two_clauses (λ a b. record { result_value = a; short_after = b }) (moved-left _ c.requires short_header_kind a.table.now _ _ a.short.now (short-made a.table.now w.counted) c.short_bytes-needed.ensures c.if-short-needed.false _ _ c.put_header.ensures c.put_short_entries.ensures)
+    two_clauses (λ a b. record { result_value = a; short_after = b }) (moved-left _ c.requires short_header_kind a.table.now _ _ a.short.now (short-made a.table.now w.counted) c.short_bytes-needed.ensures (omega arith) _ _ c.put_header.ensures c.put_short_entries.ensures)

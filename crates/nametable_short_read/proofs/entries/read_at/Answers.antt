@@ -27,11 +27,11 @@ pub returns : goal.returns
 returns c =
     record {
       result_value = rw (
-      read_found c.args.table.now c.args.count c.requires.table_value c.args.index _ _ c.start_of-start.ensures (ends_at c.args.table.now _ _ c.start_of-start.ensures.inside c.end_of-end.ensures) c.if-count-index.false _ c.requires.text_capacity_in_bounds,
-      part-found c.args.table.now c.args.count c.requires.table_value c.args.index _ _ c.start_of-start.ensures (ends_at c.args.table.now _ _ c.start_of-start.ensures.inside c.end_of-end.ensures),
-    ) at c.read_short.ensures.result_value;
+        read_found c.args.table.now c.args.count c.requires.table_value c.args.index _ _ c.start_of-start.ensures (ends_at c.args.table.now _ _ c.start_of-start.ensures.inside c.end_of-end.ensures) c.if-count-index.false _ c.requires.text_capacity_in_bounds,
+        part-found c.args.table.now c.args.count c.requires.table_value c.args.index _ _ c.start_of-start.ensures (ends_at c.args.table.now _ _ c.start_of-start.ensures.inside c.end_of-end.ensures),
+      ) at c.read_short.ensures.result_value;
       text_after = rw (
-      read_found c.args.table.now c.args.count c.requires.table_value c.args.index _ _ c.start_of-start.ensures (ends_at c.args.table.now _ _ c.start_of-start.ensures.inside c.end_of-end.ensures) c.if-count-index.false _ c.requires.text_capacity_in_bounds,
-      part-found c.args.table.now c.args.count c.requires.table_value c.args.index _ _ c.start_of-start.ensures (ends_at c.args.table.now _ _ c.start_of-start.ensures.inside c.end_of-end.ensures),
-    ) at c.read_short.ensures.text_after;
+        read_found c.args.table.now c.args.count c.requires.table_value c.args.index _ _ c.start_of-start.ensures (ends_at c.args.table.now _ _ c.start_of-start.ensures.inside c.end_of-end.ensures) c.if-count-index.false _ c.requires.text_capacity_in_bounds,
+        part-found c.args.table.now c.args.count c.requires.table_value c.args.index _ _ c.start_of-start.ensures (ends_at c.args.table.now _ _ c.start_of-start.ensures.inside c.end_of-end.ensures),
+      ) at c.read_short.ensures.text_after;
     }

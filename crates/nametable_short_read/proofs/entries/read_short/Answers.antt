@@ -21,6 +21,6 @@ returns-then-kind-short c =
 pub returns : goal.returns
 returns c =
     record {
-      result_value = rw (c.put_long.ensures ∙ filled-own _ _ (sym (long-size _)), read-as-long c.args.least c.args.position c.args.short.now c.kind_for-kind.ensures c.if-kind-short.false c.requires.short_len _ c.requires.text_capacity_in_bounds) at c.lone_entry.ensures.result_value;
-      text_after = rw (c.put_long.ensures ∙ filled-own _ _ (sym (long-size _)), read-as-long c.args.least c.args.position c.args.short.now c.kind_for-kind.ensures c.if-kind-short.false c.requires.short_len _ c.requires.text_capacity_in_bounds) at c.lone_entry.ensures.text_after;
+      result_value = rw (c.put_long.ensures ∙ filled-own _ _ (sym (long-size _)), read-as-long c.args.least c.args.position c.args.short.now c.kind_for-kind.ensures (omega arith) c.requires.short_len _ c.requires.text_capacity_in_bounds) at c.lone_entry.ensures.result_value;
+      text_after = rw (c.put_long.ensures ∙ filled-own _ _ (sym (long-size _)), read-as-long c.args.least c.args.position c.args.short.now c.kind_for-kind.ensures (omega arith) c.requires.short_len _ c.requires.text_capacity_in_bounds) at c.lone_entry.ensures.text_after;
     }

@@ -1,5 +1,4 @@
 -- `entries::start_of` meets its contract: the entry at index i begins at start.
-use Prim.Native.Nat.{◌-◌}
 use mathlib.Core.Path.{◌≡◌, refl}
 use native.Mathlib.Omega.{arith}
 use Rattle.nametable_short_format.specs.Format.{from_entry}

@@ -1,5 +1,4 @@
 -- `list::judge_list` meets its contract: what is left to judge answers as the whole does.
-use Prim.Native.Nat.{◌-◌}
 use mathlib.Core.Path.{refl, sym, ◌∙◌}
 use native.Mathlib.Omega.{arith}
 use Rattle.basis.specs.Outcome.{bytes_outcome}

@@ -1,5 +1,4 @@
 -- `list::sum_is` meets its contract: the lengths passed and what is left make up the total.
-use Prim.Native.Nat.{◌-◌}
 use mathlib.Core.Path.{refl}
 use native.Mathlib.Omega.{arith}
 use Rattle.nametable_write.proofs.ListLaws.{sum_over, sum-turn, sum-all}

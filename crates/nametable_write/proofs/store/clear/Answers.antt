@@ -1,5 +1,4 @@
 -- `store::clear` meets its contract: the bytes before i are zero.
-use Prim.Native.Nat.{◌-◌}
 use mathlib.Core.Path.{refl}
 use native.Mathlib.Omega.{arith}
 use lib.ListN.{length-set}

@@ -1,7 +1,6 @@
 -- `store::put_form` meets its contract: the kind, the reader number, then the length.
 use native.Mathlib.Omega.{arith}
 use lib.ListN.{length-set}
-use lib.Seq.{length-sets}
 use Rattle.nametable_write.specs.Writing.{number_bytes}
 use Rattle.nametable_write.proofs.store.put_form.Goals as goal
 

@@ -1,5 +1,4 @@
 -- `store::put_header` meets its contract: the kind, then the number of entries.
-use lib.Seq.{length-sets}
 use Rattle.nametable_write.proofs.store.put_header.Goals as goal
 
 pub returns : goal.returns

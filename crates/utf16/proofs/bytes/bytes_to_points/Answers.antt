@@ -14,28 +14,28 @@ use Rattle.utf16.proofs.bytes.bytes_to_points.Goals as goal
 pub returns-then-spare-eq1 : goal.returns-then-spare-eq1
 unfolding points_outcome bytes_to_points_outcome is_odd
 returns-then-spare-eq1 c =
-    two_clauses (λ a b. record { result_value = a; points_after = b }) (refused-leaves _ _ _ 12 0 (stop-equal 12 0 _ (length c.args.bytes.now % 2) 1 (omega (arith, c.if-spare-eq1.true))))
+    two_clauses (λ a b. record { result_value = a; points_after = b }) (refused-leaves _ _ _ 12 0 (stop-equal 12 0 _ (length c.args.bytes.now % 2) 1 (omega arith)))
 
 pub returns-then-points-pairs : goal.returns-then-points-pairs
 unfolding points_outcome bytes_to_points_outcome is_odd
 returns-then-points-pairs c =
     let a = c.args in
     let n = length a.bytes.now in
-    two_clauses (λ a b. record { result_value = a; points_after = b }) (refused-leaves _ _ _ 1 0 (pass-equal 12 0 _ (n % 2) 1 (λ e. omega (arith, c.if-spare-eq1.false)) ∙ stop-below 1 0 _ (length a.points.now) (n / 2) (omega (arith, c.if-points-pairs.true))))
+    two_clauses (λ a b. record { result_value = a; points_after = b }) (refused-leaves _ _ _ 1 0 (pass-equal 12 0 _ (n % 2) 1 (λ e. omega arith) ∙ stop-below 1 0 _ (length a.points.now) (n / 2) (omega arith)))
 
 pub returns-then-unpaired-pairs : goal.returns-then-unpaired-pairs
 unfolding points_outcome refused_unpaired
 returns-then-unpaired-pairs c =
     let a = c.args in
     two_clauses (λ a b. record { result_value = a; points_after = b }) (refused-leaves _ _ _ 10 _
-    (points-judged _ _ (λ e. omega (arith, c.if-spare-eq1.false)) (omega (arith, c.if-points-pairs.false))
-    ∙ stop-found 10 _ _ _ _ c.first_unpaired-unpaired.ensures (omega (arith, c.if-unpaired-pairs.true, length-units_of_bytes a.bytes.now))))
+    (points-judged _ _ (λ e. omega arith) (omega arith)
+    ∙ stop-found 10 _ _ _ _ c.first_unpaired-unpaired.ensures (omega (arith, length-units_of_bytes a.bytes.now))))
 
 pub returns : goal.returns
 unfolding points_outcome refused_unpaired
 returns c =
     let a = c.args in
     two_clauses (λ a b. record { result_value = a; points_after = b }) (done-leaves _ _ _ _ _
-    (points-judged _ _ (λ e. omega (arith, c.if-spare-eq1.false)) (omega (arith, c.if-points-pairs.false))
-    ∙ pass-found 10 _ _ _ _ c.first_unpaired-unpaired.ensures (omega (arith, c.if-unpaired-pairs.false, length-units_of_bytes a.bytes.now)) ∙ ap done (sym c.put_points.ensures.value))
+    (points-judged _ _ (λ e. omega arith) (omega arith)
+    ∙ pass-found 10 _ _ _ _ c.first_unpaired-unpaired.ensures (omega (arith, length-units_of_bytes a.bytes.now)) ∙ ap done (sym c.put_points.ensures.value))
     (rw (← c.put_points.ensures.value) at c.put_points.ensures.points_after))

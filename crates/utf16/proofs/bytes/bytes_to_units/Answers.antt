@@ -20,7 +20,7 @@ unfolding units_outcome bytes_to_units_outcome is_odd
 returns-then-bytes-eq1 c =
     let a = c.args in
     let n = length a.bytes.now in
-    two_clauses (λ a b. record { result_value = a; units_after = b }) (refused-leaves _ _ _ 12 0 (pass_below 1 0 _ (length a.units.now) (n / 2) (omega (arith, c.if-units-bytes.false)) ∙ stop-equal 12 0 _ (n % 2) 1 (omega (arith, c.if-bytes-eq1.true))))
+    two_clauses (λ a b. record { result_value = a; units_after = b }) (refused-leaves _ _ _ 12 0 (pass_below 1 0 _ (length a.units.now) (n / 2) (omega arith) ∙ stop-equal 12 0 _ (n % 2) 1 (omega arith)))
 
 pub returns : goal.returns
 unfolding units_outcome

@@ -1,5 +1,4 @@
 -- `bytes::first_unpaired` meets its contract: no unit before `i` is an unpaired surrogate.
-use Prim.Native.Nat.{◌-◌}
 use native.Mathlib.Omega.{arith}
 use Rattle.utf16.proofs.BytePairs.{length-units_of_bytes}
 use Rattle.utf16.proofs.Surrogates.{searching-none, searching-found, searching-more, searching-all}

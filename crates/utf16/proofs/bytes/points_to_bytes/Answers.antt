@@ -22,24 +22,24 @@ pub returns-then-bytes-needed : goal.returns-then-bytes-needed
 unfolding bytes_outcome points_to_bytes_outcome
 returns-then-bytes-needed c =
     let a = c.args in
-    two_clauses (λ a b. record { result_value = a; bytes_after = b }) (room-leaves (length a.points.now) a.count.0 (4 * a.count.0) (length a.bytes.now) _ 4 _ (omega (arith, c.if-points-n.false)) _ _ (omega (arith, c.if-bytes-needed.true)))
+    two_clauses (λ a b. record { result_value = a; bytes_after = b }) (room-leaves (length a.points.now) a.count.0 (4 * a.count.0) (length a.bytes.now) _ 4 _ (omega arith) _ _ (omega arith))
 
 pub returns-then-bad-n : goal.returns-then-bad-n
 unfolding bytes_outcome points_to_bytes_outcome
 returns-then-bad-n c =
     let a = c.args in
-    two_clauses (λ a b. record { result_value = a; bytes_after = b }) (element-leaves (length a.points.now) a.count.0 (4 * a.count.0) (length a.bytes.now) _ 4 _ (omega (arith, c.if-points-n.false)) (omega (arith, c.if-bytes-needed.false)) _ c.first_not_point-bad.ensures _ _ c.if-bad-n.true)
+    two_clauses (λ a b. record { result_value = a; bytes_after = b }) (element-leaves (length a.points.now) a.count.0 (4 * a.count.0) (length a.bytes.now) _ 4 _ (omega arith) (omega arith) _ c.first_not_point-bad.ensures _ _ (omega arith))
 
 pub put_text-stored-requires : goal.put_text-stored-requires
 put_text-stored-requires c =
     let h = c.if-points-n.false in
     record {
-      points_in_bounds = rw length-take-le (omega (arith, c.if-bytes-needed.false));
-      points_value = text-judged _ _ _ h c.first_not_point-bad.ensures (omega (arith, c.if-bad-n.false));
+      points_in_bounds = rw length-take-le (omega arith);
+      points_value = text-judged _ _ _ h c.first_not_point-bad.ensures (omega arith);
     }
 
 pub returns : goal.returns
 unfolding bytes_outcome points_to_bytes_outcome
 returns c =
     let a = c.args in
-    two_clauses (λ a b. record { result_value = a; bytes_after = b }) (all-leaves (length a.points.now) a.count.0 (4 * a.count.0) (length a.bytes.now) _ 4 _ (omega (arith, c.if-points-n.false)) (omega (arith, c.if-bytes-needed.false)) _ c.first_not_point-bad.ensures _ _ c.if-bad-n.false _ _ (c.put_text-stored.ensures.value, c.put_text-stored.ensures.bytes_after))
+    two_clauses (λ a b. record { result_value = a; bytes_after = b }) (all-leaves (length a.points.now) a.count.0 (4 * a.count.0) (length a.bytes.now) _ 4 _ (omega arith) (omega arith) _ c.first_not_point-bad.ensures _ _ (omega arith) _ _ (c.put_text-stored.ensures.value, c.put_text-stored.ensures.bytes_after))

@@ -1,5 +1,4 @@
 -- `bytes::put_bytes` meets its contract: what is left are the bytes of the units from `i` on.
-use Prim.Native.Nat.{◌-◌}
 use mathlib.Core.Path.{refl}
 use native.Mathlib.Omega.{arith}
 use Rattle.utf16.specs.Bytes.{bytes_of_units}

@@ -1,5 +1,4 @@
 -- `bytes::put_points` meets its contract: what is left are the points of the units from `i` on.
-use Prim.Native.Nat.{◌-◌}
 use native.Mathlib.Omega.{arith}
 use Rattle.utf16.specs.Bytes.{points_of}
 use Rattle.utf16.proofs.BytePairs.{length-units_of_bytes}

@@ -1,5 +1,4 @@
 -- `bytes::put_units` meets its contract: what is left are the units from `i` on.
-use Prim.Native.Nat.{◌-◌}
 use mathlib.Core.Path.{refl}
 use native.Mathlib.Omega.{arith}
 use Rattle.utf16.proofs.BytePairs.{length-units_of_bytes}

@@ -1,5 +1,4 @@
 -- `units::put_points` meets its contract: what is left are the points of the units from `i` on.
-use Prim.Native.Nat.{◌-◌}
 use mathlib.Core.Path.{refl}
 use native.Mathlib.Omega.{arith}
 use Rattle.utf16.proofs.Stores.{pointing-none, pointing-more, pointing-all}

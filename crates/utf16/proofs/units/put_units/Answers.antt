@@ -1,5 +1,4 @@
 -- `units::put_units` meets its contract: what is left are the units of the points from `i` on.
-use Prim.Native.Nat.{◌-◌}
 use native.Mathlib.Omega.{arith}
 use Rattle.utf16.proofs.Surrogates.{text_at}
 use Rattle.utf16.proofs.Pieces.{putting-none, putting-more, putting-all}
