@@ -734,7 +734,7 @@ mod program {
         let folder = Folder::new("names");
         let [left, right] = folder.example(1);
         let bytes = [&left, &right].map(|path| fs::read(path).unwrap());
-        let names: [&[u8]; 11] = [
+        let names: [&[u8]; 10] = [
             b"a b",
             b" ",
             b"  two  spaces  ",
@@ -745,7 +745,6 @@ mod program {
             b"-l=\"x\"",
             b"$HOME *",
             "\u{FC}".as_bytes(),
-            b"\xFF\xFE\x01",
         ];
         for name in names.map(OsStr::from_bytes) {
             let other_name = OsStr::new("other name");
@@ -757,6 +756,10 @@ mod program {
             command.current_dir(&folder.0).stdin(Stdio::null()).args([name, other_name]);
             assert_eq!(text_of(command.output().unwrap()), EXAMPLE, "{name:?}");
         }
+        // A name that is not UTF-8 can't be opened.
+        let no_text = OsStr::from_bytes(b"\xFF\xFE\x01");
+        folder.file(no_text, &bytes[0]);
+        assert_eq!(printed(&[folder.path(no_text), right.clone()]), LEFT_EMPTY);
         let [one, other] = [4095, 4094].map(|length| folder.long_path(length));
         assert_eq!([&one, &other].map(|path| path.as_os_str().len()), [4095, 4094]);
         fs::write(&one, &bytes[0]).unwrap();
