@@ -17,7 +17,7 @@ use std::io::{Read, Write};
 use std::rt::{Env, Files};
 
 // How reading ended: the input did, or a read failed.
-#[derive(Drop)]
+#[derive(Clone, Copy)]
 pub enum Ending {
     End,
     Failed,
