@@ -6,6 +6,7 @@ mod altdude_values;
 mod lace_values;
 
 ghost use Rattle.std.specs.Prelude.{◌≡◌};
+ghost use Rattle.basis.specs.Rows.{at};
 ghost use Rattle.alphabet.specs.Alphabet.{altdude, lace, brace, character_of, value_of, with_case, look_up};
 
 const ALTDUDE: [u8; 32] = *b"abcdefghijkmnpqrstuvwxyz23456789";
@@ -15,24 +16,32 @@ const LACE: [u8; 32] = *b"abcdefghijklmnopqrstuvwxyz234567";
 const BRACE: [u8; 32] = *b"23456789abcdefghijkmnpqrstuvwxyz";
 
 // A byte as it was looked up: its value, 32 where it has none, and whether it is one of A to Z.
+// The value is no Option: each `*_look_up` promises `result ≡ look_up _ byte`, a record whose value is 32 where there is none.
 #[derive(Drop)]
 pub struct Character {
     pub value: u8,
     pub capital: bool,
 }
 
+// The value of a byte by a table of values.
+fn value_in(table: &[u8; 256], byte: u8) -> u8
+    ensures { result ≡ at table.now byte }
+{
+    table[byte as usize]
+}
+
 // The value of a byte in AltDUDE's alphabet, 32 where it has none.
 fn altdude_value(byte: u8) -> u8
     ensures { result ≡ value_of altdude byte }
 {
-    altdude_values::VALUES[byte as usize]
+    value_in(&altdude_values::VALUES, byte)
 }
 
 // The value of a byte in LACE's alphabet, 32 where it has none.
 fn lace_value(byte: u8) -> u8
     ensures { result ≡ value_of lace byte }
 {
-    lace_values::VALUES[byte as usize]
+    value_in(&lace_values::VALUES, byte)
 }
 
 // The value of a byte in BRACE's alphabet, 32 where it has none: its characters are AltDUDE's, the digits first.
@@ -78,26 +87,34 @@ pub fn brace_look_up(byte: u8) -> Character
     with_case(brace_value(byte), byte)
 }
 
+// An alphabet's character for a quintet, 0 for 32 or more.
+#[tactic(auto, unfolding(crate::specs::Alphabet::character_of))]
+fn table_character(alphabet: &[u8], quintet: u8) -> u8
+    ensures { result ≡ character_of alphabet.now quintet }
+{
+    alphabet.get(quintet as usize).copied().unwrap_or(0)
+}
+
 // AltDUDE's character for a quintet, 0 for 32 or more.
+#[tactic(auto, unfolding(crate::specs::Alphabet::altdude))]
 pub fn altdude_character(quintet: u8) -> u8
     ensures { result ≡ character_of altdude quintet }
 {
-    let q = quintet as usize;
-    if q < 32 { ALTDUDE[q] } else { 0 }
+    table_character(&ALTDUDE, quintet)
 }
 
 // LACE's character for a quintet, 0 for 32 or more.
+#[tactic(auto, unfolding(crate::specs::Alphabet::lace))]
 pub fn lace_character(quintet: u8) -> u8
     ensures { result ≡ character_of lace quintet }
 {
-    let q = quintet as usize;
-    if q < 32 { LACE[q] } else { 0 }
+    table_character(&LACE, quintet)
 }
 
 // BRACE's character for a quintet, 0 for 32 or more.
+#[tactic(auto, unfolding(crate::specs::Alphabet::brace))]
 pub fn brace_character(quintet: u8) -> u8
     ensures { result ≡ character_of brace quintet }
 {
-    let q = quintet as usize;
-    if q < 32 { BRACE[q] } else { 0 }
+    table_character(&BRACE, quintet)
 }

@@ -9,20 +9,20 @@ use native.Mathlib.Omega.{arith}
 use lib.Bits.{bit_xor}
 use lib.Dec.{eqb, ltb}
 use lib.ListN.{length, get_or, drop, length-append, length-map, drop_of_length-le}
-use lib.Seq.{sets, drop-cons}
+use lib.Seq.{drop-cons}
 use borrow.Author.Tests.{lt-ltb, le-ltb, eq-eqb, ne_eqb, eqb-true, eqb-false, not-true, not-false}
+use Rattle.std.proofs.Common.{Option, None, Some}
 use Rattle.basis.specs.Tests.{both}
 use Rattle.basis.proofs.Tests.{cases, by-lt, both_false}
-use Rattle.basis.proofs.Stores.{Storing, storing-all, storing-more, storing-none}
+use Rattle.basis.proofs.Stores.{Storing, Stored, storing-all, storing-piece, storing-none}
 use Rattle.utf16.specs.Points.{is_point}
 use Rattle.utf16.proofs.Surrogates.{point-top}
 use Rattle.alphabet.specs.Alphabet.{altdude, value_of}
 use Rattle.alphabet.proofs.Inverse.{value-le, altdude-alphabet}
-use Rattle.altdude.specs.Symbols.{symbol_of, is_character}
+use Rattle.altdude.specs.Symbols.{symbol_of}
 use Rattle.altdude.specs.Decoding.{follows, next_remembered, next_pending, adds, is_readable, text_from, text_of}
-use Rattle.altdude.specs.Internal.{Goes, StepMeans, adds_after}
-use Rattle.altdude.specs.declared.decoding.Step.{Step}
-use Rattle.altdude.specs.declared.decoding.Step.TheVariants.{Next, Stop}
+use Rattle.altdude.specs.Internal.{Small, Goes, Stops, StepMeans, adds_after}
+use Rattle.altdude.specs.declared.decoding.State.{State}
 use Rattle.altdude.proofs.Xor.{xor_large}
 use Rattle.altdude.proofs.Steps.{follows-low, remembered-low, pending-low, follows-high, remembered-high, pending-high, readable-low, readable-high, readable-hyphen}
 
@@ -42,11 +42,6 @@ symbol-hyphen byte e = rw (eq-eqb _ _ e)
 pub symbol-value : (byte value : ℕ) → (byte ≡ 45 → ⊥) → value ≡ value_of altdude byte → value ≡ symbol_of byte
 unfolding symbol_of
 symbol-value byte value n e = rw (ne_eqb _ _ n) e
-
--- the test for a byte outside is the test for the symbol 32
-pub outside-is : (byte symbol : ℕ) → symbol ≡ symbol_of byte → not (is_character byte) ≡ eqb symbol 32
-unfolding is_character
-outside-is byte symbol e = rw (← e) (cases (eqb symbol 32) (λ t. rw t) (λ f. rw f))
 
 -- large values
 
@@ -72,59 +67,57 @@ large-stops m v (s ∷ l) hm hv =
 
 -- one symbol
 
-module _ (m v s : ℕ) where
+module _ (state : State) (s : ℕ) where
   -- the last of a group
   module _ (low : s < 16) where
-    pub stop-no-point : (t : Bool) → t ≡ is_point (bit_xor m (v * 16 + s)) → not t ≡ true → StepMeans m v s Stop
+    pub stop-no-point : (t : Bool) → t ≡ is_point (bit_xor state.remembered (state.pending * 16 + s)) → not t ≡ true → Stops state s
     unfolding both
-    stop-no-point t e n l = readable-low m v s l low ∙ rw (← e, not-true t n)
+    stop-no-point t e n l = readable-low state.remembered state.pending s l low ∙ rw (← e, not-true t n)
 
-    pub stop-point-45 : bit_xor m (v * 16 + s) ≡ 45 → StepMeans m v s Stop
+    pub stop-point-45 : bit_xor state.remembered (state.pending * 16 + s) ≡ 45 → Stops state s
     unfolding both
-    stop-point-45 e l = readable-low m v s l low ∙ rw (eq-eqb _ 45 e, both_false)
+    stop-point-45 e l = readable-low state.remembered state.pending s l low ∙ rw (eq-eqb _ 45 e, both_false)
 
-    pub goes_last : (t : Bool) → t ≡ is_point (bit_xor m (v * 16 + s)) → not t ≡ false → (bit_xor m (v * 16 + s) ≡ 45 → ⊥)
-        → Goes m v s (bit_xor m (v * 16 + s)) 0
+    pub goes_last : (t : Bool) → t ≡ is_point (bit_xor state.remembered (state.pending * 16 + s)) → not t ≡ false → (bit_xor state.remembered (state.pending * 16 + s) ≡ 45 → ⊥)
+        → Goes state s (record { remembered = bit_xor state.remembered (state.pending * 16 + s); pending = 0 })
     unfolding both
     goes_last t e n h = record {
-      may = follows-low m v s low ∙ rw (← e, not-false t n, ne_eqb _ 45 h);
-      remembered_is = sym (remembered-low m v s low);
-      pending_is = sym (pending-low m v s low);
-      remembered_small = point-small _ (sym e ∙ not-false t n);
-      pending_small = omega arith;
+      may = follows-low state.remembered state.pending s low ∙ rw (← e, not-false t n, ne_eqb _ 45 h);
+      remembered_is = sym (remembered-low state.remembered state.pending s low);
+      pending_is = sym (pending-low state.remembered state.pending s low);
+      small = record { remembered = point-small _ (sym e ∙ not-false t n); pending = omega arith };
     }
 
   -- a hyphen
   module _ (hyphen : s ≡ 45) where
-    pub stop-open : (v ≡ 0 → ⊥) → StepMeans m v s Stop
+    pub stop-open : (state.pending ≡ 0 → ⊥) → Stops state s
     unfolding both
-    stop-open n l = rw hyphen (readable-hyphen m v l ∙ rw (ne_eqb v 0 n))
+    stop-open n l = rw hyphen (readable-hyphen state.remembered state.pending l ∙ rw (ne_eqb state.pending 0 n))
 
-    pub goes-hyphen : m < 2 ^ 21 → v ≡ 0 → Goes m v s m v
+    pub goes-hyphen : Small state → state.pending ≡ 0 → Goes state s state
     unfolding follows next_remembered next_pending
-    goes-hyphen hm z = rw (hyphen, z) (record { may = refl; remembered_is = refl; pending_is = refl; remembered_small = hm; pending_small = omega arith })
+    goes-hyphen small z = rw hyphen (record { may = rw z; remembered_is = refl; pending_is = z; small = small })
 
   -- any other
   module _ (high : 16 ≤ s) (no : s ≡ 45 → ⊥) where
-    pub stop-foreign : 31 < s → StepMeans m v s Stop
+    pub stop-foreign : 31 < s → Stops state s
     unfolding both
-    stop-foreign h l = readable-high m v s l high no ∙ rw (le-ltb s 32 h)
+    stop-foreign h l = readable-high state.remembered state.pending s l high no ∙ rw (le-ltb s 32 h)
 
-    pub stop-zero : v * 16 + (s - 16) ≡ 0 → StepMeans m v s Stop
+    pub stop-zero : state.pending * 16 + (s - 16) ≡ 0 → Stops state s
     unfolding both
-    stop-zero h l = readable-high m v s l high no ∙ rw (eq-eqb _ 0 h, both_false)
+    stop-zero h l = readable-high state.remembered state.pending s l high no ∙ rw (eq-eqb _ 0 h, both_false)
 
-    pub stop-large : m < 2 ^ 21 → 0x1f_ffff < v * 16 + (s - 16) → StepMeans m v s Stop
-    stop-large hm h l = readable-high m v s l high no ∙ rw (large-stops m (v * 16 + (s - 16)) l hm h, both_false)
+    pub stop-large : Small state → 0x1f_ffff < state.pending * 16 + (s - 16) → Stops state s
+    stop-large small h l = readable-high state.remembered state.pending s l high no ∙ rw (large-stops state.remembered (state.pending * 16 + (s - 16)) l small.remembered h, both_false)
 
-    pub goes-leading : m < 2 ^ 21 → s ≤ 31 → (v * 16 + (s - 16) ≡ 0 → ⊥) → v * 16 + (s - 16) ≤ 0x1f_ffff → Goes m v s m (v * 16 + (s - 16))
+    pub goes-leading : Small state → s ≤ 31 → (state.pending * 16 + (s - 16) ≡ 0 → ⊥) → state.pending * 16 + (s - 16) ≤ 0x1f_ffff → Goes state s (record { remembered = state.remembered; pending = state.pending * 16 + (s - 16) })
     unfolding both
-    goes-leading hm h n w = record {
-      may = follows-high m v s high no ∙ rw (lt-ltb s 32 (omega arith), ne_eqb _ 0 n);
-      remembered_is = sym (remembered-high m v s high no);
-      pending_is = sym (pending-high m v s high no);
-      remembered_small = hm;
-      pending_small = omega arith;
+    goes-leading small h n w = record {
+      may = follows-high state.remembered state.pending s high no ∙ rw (lt-ltb s 32 (omega arith), ne_eqb _ 0 n);
+      remembered_is = sym (remembered-high state.remembered state.pending s high no);
+      pending_is = sym (pending-high state.remembered state.pending s high no);
+      small = record { remembered = small.remembered; pending = omega arith };
     }
 
 -- what a symbol adds
@@ -172,68 +165,62 @@ symbols-here l i h = rw (drop-cons l i 0, add-one)
 symbols-end : (l : List ℕ) (i : ℕ) → length l ≤ i → map symbol_of (drop i l) ≡ []
 symbols-end l i h = rw drop_of_length-le
 
--- what a loop keeps: what is left can be read exactly when the whole can, and the state is within 21 bits
-pub record Reading (l : List ℕ) (all : Bool) (m v i : ℕ) : Type 0 where
-  pub left : all ≡ is_readable m v (map symbol_of (drop i l))
-  pub remembered_small : m < 2 ^ 21
-  pub pending_small : v < 2 ^ 21
-  pub inside : i ≤ length l
-
 -- what the storing loop keeps besides: what is left of the text is still to be stored, from an index that is not ahead
-pub record Putting (l old text : List ℕ) (m v at i : ℕ) : Type 0 where
-  pub storing : Storing old (text_of l) text at (text_from m v (map symbol_of (drop i l)))
+pub record Putting (l old text : List ℕ) (state : State) (at i : ℕ) : Type 0 where
+  pub storing : Storing old (text_of l) text at (text_from state.remembered state.pending (map symbol_of (drop i l)))
   pub behind : at ≤ i
 
-pub reading-start : (l : List ℕ) (all : Bool) → all ≡ is_readable 96 0 (map symbol_of l) → Reading l all 96 0 0
-reading-start l all e = record { left = e; remembered_small = omega arith; pending_small = omega arith; inside = omega arith }
+-- what a loop keeps: what is left can be read from the state exactly when the whole can
+pub record Reading (l : List ℕ) (all : Bool) (state : State) (i : ℕ) : Type 0 where
+  pub left : all ≡ is_readable state.remembered state.pending (map symbol_of (drop i l))
+  pub small : Small state
 
-pub putting-start : (l text : List ℕ) → Putting l text text 96 0 0 0
+pub putting-start : (l text : List ℕ) → Putting l text text (record { remembered = 96; pending = 0 }) 0 0
 unfolding text_of
 putting-start l text = record { storing = storing-all text (text_of l); behind = omega arith }
 
-module _ (l : List ℕ) (all : Bool) (m v i : ℕ) (reading : Reading l all m v i) where
-  pub reading-end : length l ≤ i → eqb v 0 ≡ all
+pub reading-start : (l : List ℕ) (all : Bool) → all ≡ is_readable 96 0 (map symbol_of l) → Reading l all (record { remembered = 96; pending = 0 }) 0
+reading-start l all e = record { left = e; small = record { remembered = omega arith; pending = omega arith } }
+
+module _ (l : List ℕ) (all : Bool) (state : State) (i : ℕ) (reading : Reading l all state i) where
+  pub reading-end : length l ≤ i → eqb state.pending 0 ≡ all
   unfolding is_readable
-  reading-end h = sym (reading.left ∙ ap (is_readable m v) (symbols-end l i h))
+  reading-end h = sym (reading.left ∙ ap (is_readable state.remembered state.pending) (symbols-end l i h))
 
-  -- a turn, by what the step answers
-  module _ (h : i < length l) (s : ℕ) (es : s ≡ symbol_of (get_or l i 0)) (step : Step) (means : StepMeans m v s step) where
-    left_here : all ≡ is_readable m v (s ∷ map symbol_of (drop (i + 1) l))
-    left_here = rw es (reading.left ∙ ap (is_readable m v) (symbols-here l i h))
+  -- a turn, by what the step gives
+  module _ (h : i < length l) (s : ℕ) (es : s ≡ symbol_of (get_or l i 0)) (step : Option State) (means : StepMeans state s step) where
+    left_here : all ≡ is_readable state.remembered state.pending (s ∷ map symbol_of (drop (i + 1) l))
+    left_here = rw es (reading.left ∙ ap (is_readable state.remembered state.pending) (symbols-here l i h))
 
-    pub reading-stop : step ≡ Stop → false ≡ all
-    reading-stop e = sym (left_here ∙ subst (StepMeans m v s) e means (map symbol_of (drop (i + 1) l)))
+    pub reading-stop : step ≡ None → false ≡ all
+    reading-stop e = sym (left_here ∙ subst (StepMeans state s) e means (map symbol_of (drop (i + 1) l)))
 
-    module _ (m' v' : ℕ) (e : step ≡ Next m' v') where
-      goes : Goes m v s m' v'
-      goes = subst (StepMeans m v s) e means
+    module _ (next : State) (e : step ≡ Some next) where
+      goes : Goes state s next
+      goes = subst (StepMeans state s) e means
 
-      pub reading-turn : Reading l all m' v' (i + 1)
+      pub reading-turn : Reading l all next (i + 1)
       unfolding is_readable both
-      reading-turn = record {
-        left = left_here ∙ rw (goes.may, ← goes.remembered_is, ← goes.pending_is);
-        remembered_small = goes.remembered_small;
-        pending_small = goes.pending_small;
-        inside = omega arith;
-      }
+      reading-turn = record { left = left_here ∙ rw (goes.may, ← goes.remembered_is, ← goes.pending_is); small = goes.small }
 
-      text-here : text_from m v (map symbol_of (drop i l)) ≡ adds_after s m' ++ text_from m' v' (map symbol_of (drop (i + 1) l))
+      text-here : text_from state.remembered state.pending (map symbol_of (drop i l))
+          ≡ adds_after s next.remembered ++ text_from next.remembered next.pending (map symbol_of (drop (i + 1) l))
       unfolding text_from
-      text-here = ap (text_from m v) (symbols-here l i h) ∙ rw (← es, adds-is, ← goes.remembered_is, ← goes.pending_is)
+      text-here = ap (text_from state.remembered state.pending) (symbols-here l i h) ∙ rw (← es, adds-is, ← goes.remembered_is, ← goes.pending_is)
 
-      pub putting-turn : (old text text' : List ℕ) (at at' : ℕ) → Putting l old text m v at i
-          → at' ≡ at + length (adds_after s m') → text' ≡ sets text at (adds_after s m')
-          → Reading l all m' v' (i + 1) × Putting l old text' m' v' at' (i + 1)
-      putting-turn old text text' at at' putting at_is text_is = (
+      pub putting-turn : (old text : List ℕ) (at : ℕ) → Putting l old text state at i
+          → {text' : List ℕ} {at' : ℕ} → Stored text at (adds_after s next.remembered) text' at'
+          → Reading l all next (i + 1) × Putting l old text' next at' (i + 1)
+      putting-turn old text at putting stored = (
         reading-turn,
         record {
-          storing = storing-more _ _ _ _ _ putting.storing (adds_after s m') _ text-here text' at' text_is at_is;
-          behind = omega (arith, adds-le s m', putting.behind);
+          storing = storing-piece putting.storing text-here stored;
+          behind = omega (arith, stored.count, adds-le s next.remembered, putting.behind);
         },
       )
 
-pub putting-end : (l old text : List ℕ) (m v at i : ℕ) → Putting l old text m v at i → length l ≤ i → length l ≤ length old
+pub putting-end : (l old text : List ℕ) (state : State) (at i : ℕ) → Putting l old text state at i → length l ≤ i → length l ≤ length old
     → (at ≡ length (text_of l)) × (text ≡ text_of l ++ drop (length (text_of l)) old)
 unfolding text_from
-putting-end l old text m v at i putting h fits =
-    storing-none _ _ _ _ _ putting.storing (ap (text_from m v) (symbols-end l i h)) (omega (arith, text-fits l))
+putting-end l old text state at i putting h fits =
+    storing-none _ _ _ _ _ putting.storing (ap (text_from state.remembered state.pending) (symbols-end l i h)) (omega (arith, text-fits l))

@@ -12,7 +12,7 @@ use lib.Seq.{sets, drop-cons}
 use borrow.Author.Tests.{eq-eqb, ne_eqb}
 use Rattle.basis.specs.Rows.{at}
 use Rattle.basis.proofs.Tests.{cases, by-lt}
-use Rattle.basis.proofs.Stores.{sets_last, Storing, storing-all, storing-more, storing-none}
+use Rattle.basis.proofs.Stores.{sets_last, Storing, Stored, stored_one, storing-all, storing-piece, storing-none}
 use Rattle.altdude.specs.Symbols.{byte_of}
 use Rattle.altdude.specs.Encoding.{leading_digits, group_of, item_of, remembered_after, symbols_from, label_of}
 use Rattle.altdude.proofs.Digits.{digits_step, digits-none}
@@ -42,6 +42,13 @@ digits_more y h =
 
 pub digits-length : (y : ℕ) → 0 < y → length (leading_digits y y []) ≡ length (leading_digits (y / 16) (y / 16) []) + 1
 digits-length y h = rw (digits_more y h, length-append)
+
+-- a number has digits exactly if it is not 0
+pub digits-some : (y : ℕ) → 0 < length (leading_digits y y []) → 0 < y
+digits-some y h = by-lt 0 y (λ p. p) (λ p. absurd (omega (arith, ap length (digits-none y [] (omega arith)))))
+
+pub digits-over : (y : ℕ) → length (leading_digits y y []) ≡ 0 → y ≡ 0
+digits-over y h = by-lt 0 y (λ p. absurd (omega (arith, digits-length y p))) (λ p. omega arith)
 
 pub group-length : (x : ℕ) → length (group_of x []) ≡ length (leading_digits (x / 16) (x / 16) []) + 1
 unfolding group_of
@@ -82,10 +89,9 @@ module _ (t : List ℕ) (m m' i : ℕ) (inside : i < length t) (next : m' ≡ re
 
   -- the item stored, and what is left to store
   pub store-turn : (old label : List ℕ) (k : ℕ) → Storing old (label_of t) label k (map byte_of (symbols_from m (drop i t)))
-      → (label' : List ℕ) (k' : ℕ) → k' ≡ k + length (item_of m (at t i) []) → label' ≡ sets label k (map byte_of (item_of m (at t i) []))
+      → {label' : List ℕ} {k' : ℕ} → Stored label k (map byte_of (item_of m (at t i) [])) label' k'
       → Storing old (label_of t) label' k' (map byte_of (symbols_from m' (drop (i + 1) t)))
-  store-turn old label k s label' k' ek el =
-      storing-more _ _ _ _ _ s (map byte_of (item_of m (at t i) [])) _ (rw (symbols-turn, map-append)) label' k' el (rw length-map ek)
+  store-turn old label k s stored = storing-piece s (rw (symbols-turn, map-append)) stored
 
 -- all symbols are counted and are to be stored
 pub count-start : (t : List ℕ) → length (label_of t) ≡ 0 + length (symbols_from 96 t)
@@ -141,9 +147,9 @@ module _ (m p : ℕ) (hyphen : p ≡ 45) where
   pub hyphen-length : length (item_of m p []) ≡ 1
   hyphen-length = ap length (item-hyphen m p hyphen)
 
-  pub put-hyphen : (label : List ℕ) (k : ℕ) → set label k 45 ≡ sets label k (map byte_of (item_of m p []))
+  pub put-hyphen : (label : List ℕ) (k : ℕ) → Stored label k (map byte_of (item_of m p [])) (set label k 45) (k + 1)
   unfolding byte_of
-  put-hyphen label k = rw (item-hyphen m p hyphen)
+  put-hyphen label k = rw (item-hyphen m p hyphen) (stored_one label k 45)
 
 -- the length of a label, as it is counted up to 64
 module _ (n long : ℕ) (count : n ≡ min 64 long) where

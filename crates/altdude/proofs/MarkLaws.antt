@@ -1,14 +1,15 @@
 -- Marks: the items that a byte ends, the turns of the loops that store marks and raise bytes, and that a label has as many marks as points.
 use Prim.Native.Nat.{ℕ, suc, ◌+◌, ◌≤◌, ◌<◌}
 use mathlib.Core.Path.{◌≡◌, refl, sym, ap, ap₂, ◌∙◌}
-use mathlib.Core.Bool.{true, false}
+use mathlib.Core.Bool.{Bool, true, false}
 use mathlib.Core.List.{List, [], ◌∷◌, ◌++◌, map, append-nil}
 use native.Mathlib.Numerals.{add-one}
 use native.Mathlib.Omega.{arith}
 use lib.Dec.{eqb, ltb}
 use lib.ListN.{length, get_or, take, drop, set, length-append, length-drop, drop_of_length-le, take-append-drop}
 use lib.Seq.{sets, sets-eq, drop_at, drop-cons, drop-drop, drop-set-lt, get_or-drop}
-use borrow.Author.Tests.{lt-ltb, le-ltb, eq-eqb, ne_eqb}
+use borrow.Author.Tests.{eq-eqb, ne_eqb}
+use Rattle.std.specs.Int.{from_bool}
 use Rattle.basis.specs.Tests.{pick, both}
 use Rattle.basis.specs.Rows.{at}
 use Rattle.basis.specs.Outcome.{done, count_of}
@@ -16,12 +17,12 @@ use Rattle.basis.proofs.Tests.{cases, both_false}
 use Rattle.basis.proofs.Outcome.{passed}
 use Rattle.basis.proofs.Lists.{sets-front}
 use Rattle.basis.proofs.Parts.{front-is}
-use Rattle.basis.proofs.Stores.{Storing, storing-all, storing-more, storing-none}
+use Rattle.basis.proofs.Stores.{Storing, Stored, stored-none, stored_one, storing-all, storing-piece, storing-none}
 use Rattle.ascii.specs.Case.{is_capital, capital}
 use Rattle.alphabet.specs.Alphabet.{altdude, value_of, look_up}
 use Rattle.alphabet.specs.declared.Character.{Character}
 use Rattle.alphabet.proofs.Inverse.{value-le, altdude-alphabet}
-use Rattle.alphabet.proofs.LookUp.{value_found}
+use Rattle.alphabet.proofs.LookUp.{value_found, capital-found}
 use Rattle.labels.specs.Tests.{label_tests}
 use Rattle.labels.proofs.FirstTests.{label-passed}
 use Rattle.altdude.specs.Symbols.{symbol_of}
@@ -29,29 +30,23 @@ use Rattle.altdude.specs.Decoding.{next_remembered, next_pending, adds, text_fro
 use Rattle.altdude.specs.Answer.{decode_outcome}
 use Rattle.altdude.specs.Marks.{ends_item, items_ended, marked_byte, marked, shows_mark, marks_of}
 
--- the items that a byte ends, by what it is
+-- a byte ends an item as a hyphen or by its value, and how many items are ended then
 module _ (byte : ℕ) where
-  pub hyphen-ends : byte ≡ 45 → 1 ≡ items_ended byte
-  unfolding items_ended ends_item
-  hyphen-ends e = rw (eq-eqb byte 45 e)
+  pub ends-hyphen : byte ≡ 45 → eqb byte 45 ≡ ends_item byte
+  unfolding ends_item
+  ends-hyphen e = rw (eq-eqb byte 45 e)
 
-  pub last-ends : (byte ≡ 45 → ⊥) → (value : ℕ) → value ≡ value_of altdude byte → value < 16 → 1 ≡ items_ended byte
-  unfolding items_ended ends_item
-  last-ends n value v h = rw (ne_eqb byte 45 n, ← v, lt-ltb value 16 h)
+  pub ends-found : (byte ≡ 45 → ⊥) → {found : Character} → found ≡ look_up altdude byte → ltb found.value 16 ≡ ends_item byte
+  unfolding ends_item
+  ends-found n e = rw (ne_eqb byte 45 n, value_found altdude byte e)
 
-  pub leading-ends : (byte ≡ 45 → ⊥) → (value : ℕ) → value ≡ value_of altdude byte → 16 ≤ value → 0 ≡ items_ended byte
-  unfolding items_ended ends_item
-  leading-ends n value v h = rw (ne_eqb byte 45 n, ← v, le-ltb value 16 h)
-
-  -- and back: a byte that ends an item, and one that ends none
-  module _ (ended : ℕ) (is : ended ≡ items_ended byte) where
-    pub ends-none : ended ≡ 0 → ends_item byte ≡ false
+  module _ (b : Bool) (is : b ≡ ends_item byte) (ended : ℕ) (count : ended ≡ from_bool b) where
+    pub ended-count : ended ≡ items_ended byte
     unfolding items_ended
-    ends-none e = cases (ends_item byte) (λ t. let one : items_ended byte ≡ 1 = rw t in absurd (omega arith)) (λ f. f)
+    ended-count = count ∙ rw (← is) (cases b (λ t. rw t) (λ f. rw f))
 
-    pub ends-one : (ended ≡ 0 → ⊥) → ends_item byte ≡ true
-    unfolding items_ended
-    ends-one n = cases (ends_item byte) (λ t. t) (λ f. absurd (n (is ∙ rw f)))
+    pub ended-le : ended ≤ 1
+    ended-le = rw count (cases b (λ t. rw t (omega arith)) (λ f. rw f (omega arith)))
 
 -- what is stored for a byte that ends an item: a mark of 1 makes it a capital
 module _ (mark byte : ℕ) where
@@ -69,15 +64,16 @@ module _ (mark byte : ℕ) where
 
 -- the mark that a byte shows, as it is stored
 module _ (byte : ℕ) where
-  pub shows-none : (old : List ℕ) (at : ℕ) → ends_item byte ≡ false
-      → (at ≡ at + length (shows_mark byte [])) × (old ≡ sets old at (shows_mark byte []))
+  pub shows-none : (old : List ℕ) (at : ℕ) → ends_item byte ≡ false → Stored old at (shows_mark byte []) old at
   unfolding shows_mark
-  shows-none old at f = rw f (omega arith, refl)
+  shows-none old at f = rw f (stored-none _ _)
 
-  pub shows-one : (old : List ℕ) (at : ℕ) → ends_item byte ≡ true → (mark : ℕ) → mark ≡ pick {A = ℕ} (is_capital byte) 1 0
-      → (at + 1 ≡ at + length (shows_mark byte [])) × (set old at mark ≡ sets old at (shows_mark byte []))
+  pub shows-one : (old : List ℕ) (at : ℕ) → ends_item byte ≡ true → {found : Character} → found ≡ look_up altdude byte → (mark : ℕ) → mark ≡ from_bool found.capital
+      → Stored old at (shows_mark byte []) (set old at mark) (at + 1)
   unfolding shows_mark
-  shows-one old at t mark e = rw (t, ← e) (refl, refl)
+  shows-one old at t e mark m =
+      let shown : mark ≡ pick {A = ℕ} (is_capital byte) 1 0 = m ∙ rw (capital-found altdude byte e) (cases (is_capital byte) (λ t. rw t) (λ f. rw f)) in
+      rw (t, ← shown) (stored_one _ _ _)
 
   shows-before : (rest : List ℕ) → shows_mark byte rest ≡ shows_mark byte [] ++ rest
   unfolding shows_mark
@@ -101,13 +97,12 @@ pub record Showing (l old now : List ℕ) (at i : ℕ) : Type 0 where
 pub showing-start : (l old : List ℕ) → Showing l old old 0 0
 showing-start l old = record { storing = storing-all old (marks_of l); behind = omega arith }
 
-pub showing-turn : (l old now later : List ℕ) (at next i : ℕ) → Showing l old now at i → i < length l
-    → next ≡ at + length (shows_mark (get_or l i 0) []) → later ≡ sets now at (shows_mark (get_or l i 0) [])
-    → Showing l old later next (i + 1)
+pub showing-turn : (l old now : List ℕ) (at i : ℕ) → Showing l old now at i → i < length l
+    → {later : List ℕ} {next : ℕ} → Stored now at (shows_mark (get_or l i 0) []) later next → Showing l old later next (i + 1)
 unfolding marks_of
-showing-turn l old now later at next i s h next_is later_is = record {
-  storing = storing-more _ _ _ _ _ s.storing (shows_mark (get_or l i 0) []) _ here later next later_is next_is;
-  behind = omega (arith, shows-le (get_or l i 0), s.behind);
+showing-turn l old now at i s h stored = record {
+  storing = storing-piece s.storing here stored;
+  behind = omega (arith, stored.count, shows-le (get_or l i 0), s.behind);
 }
   where
     here : marks_of (drop i l) ≡ shows_mark (get_or l i 0) [] ++ marks_of (drop (i + 1) l)
@@ -155,7 +150,7 @@ module _ (marks old now : List ℕ) (next i : ℕ) (r : Raising marks old now ne
       → (more : ℕ) → more ≡ items_ended (get_or now i 0) → more ≤ 1 → Raising marks old (set now i value) (next + more) (i + 1)
   unfolding marked
   raising-turn h value value_is more more_is one = record {
-    storing = storing-more _ _ _ _ _ r.storing (value ∷ []) _ here (set now i value) (i + 1) refl refl;
+    storing = storing-piece r.storing here (stored_one _ _ _);
     same = drop-set-lt (i + 1) now i value (omega arith) ∙ sym (drop-drop 1 i now) ∙ ap (drop 1) r.same ∙ drop-drop 1 i old;
     few = omega (arith, r.few);
   }
@@ -228,14 +223,3 @@ accepted-has capacity l count e =
     let short = (passed _ _ _ _ _ (passed _ _ _ _ _ (passed _ _ _ _ _ e).1).1).1 in
     let last : done (length (text_of l)) ≡ done count = (passed _ _ _ _ _ (passed _ _ _ _ _ (passed _ _ _ _ _ short).1).1).1 in
     (first.short, sym (ap count_of last))
-
--- what a byte that was looked up ends
-module _ (byte : ℕ) (other : byte ≡ 45 → ⊥) (found : Character) (is : found ≡ look_up altdude byte) where
-  pub found-last : found.value < 16 → 1 ≡ items_ended byte
-  found-last h = last-ends byte other _ (value_found altdude byte is) h
-
-  pub found-leading : 16 ≤ found.value → 0 ≡ items_ended byte
-  found-leading h = leading-ends byte other _ (value_found altdude byte is) h
-
--- what `items_ended` needs
-pub ruleset ends_rules = (hyphen-ends, found-last, found-leading)

@@ -1,22 +1,29 @@
 -- What one symbol does to the state of the reader; no public promise cites it.
-use Rattle.std.specs.Prelude.{ℕ, ◌^◌, ◌<◌, ◌≡◌, true, false, List, [], ◌∷◌, eqb, ltb}
+use Rattle.std.specs.Prelude.{ℕ, ◌^◌, ◌<◌, ◌≡◌, true, false, List, [], ◌∷◌, eqb, ltb, Option, None, Some}
 use Rattle.basis.specs.Tests.{pick}
 use Rattle.altdude.specs.Decoding.{follows, next_remembered, next_pending, is_readable}
-use Rattle.altdude.specs.declared.decoding.Step.{Step}
-use Rattle.altdude.specs.declared.decoding.Step.TheVariants.{Next, Stop}
+use Rattle.altdude.specs.declared.decoding.State.{State}
 
--- the symbol may follow, and this is the state after it, still within 21 bits
-pub record Goes (remembered pending s new_remembered new_pending : ℕ) : Type 0 where
-  pub may : follows remembered pending s ≡ true
-  pub remembered_is : new_remembered ≡ next_remembered remembered pending s
-  pub pending_is : new_pending ≡ next_pending pending s
-  pub remembered_small : new_remembered < 2 ^ 21
-  pub pending_small : new_pending < 2 ^ 21
+-- both numbers are within 21 bits
+pub record Small (state : State) : Type 0 where
+  pub remembered : state.remembered < 2 ^ 21
+  pub pending : state.pending < 2 ^ 21
 
--- a step goes on with the next state, or no row goes on with this symbol
-abbrev pub StepMeans : ℕ → ℕ → ℕ → Step → Type 0
-StepMeans remembered pending s (Next new_remembered new_pending) = Goes remembered pending s new_remembered new_pending
-StepMeans remembered pending s Stop = (l : List ℕ) → is_readable remembered pending (s ∷ l) ≡ false
+-- the symbol may follow, and this is the state after it
+pub record Goes (state : State) (s : ℕ) (next : State) : Type 0 where
+  pub may : follows state.remembered state.pending s ≡ true
+  pub remembered_is : next.remembered ≡ next_remembered state.remembered state.pending s
+  pub pending_is : next.pending ≡ next_pending state.pending s
+  pub small : Small next
+
+-- no row goes on with the symbol
+abbrev pub Stops : State → ℕ → Type 0
+Stops state s = (l : List ℕ) → is_readable state.remembered state.pending (s ∷ l) ≡ false
+
+-- a step gives the next state, or no row goes on with this symbol
+abbrev pub StepMeans : State → ℕ → Option State → Type 0
+StepMeans state s (Some next) = Goes state s next
+StepMeans state s None = Stops state s
 
 -- what a symbol adds to the text, where the remembered number is the one after it
 unfoldable pub adds_after : ℕ → ℕ → List ℕ

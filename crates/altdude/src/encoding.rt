@@ -1,6 +1,6 @@
 // Writing a text as a label.
 ghost use Rattle.std.specs.Prelude.{◌≡◌, [], ◌++◌, map, ◌+◌, ◌≤◌, min, length, drop};
-ghost use Rattle.std.proofs.lemmas.List.Edits.{sets};
+ghost use Rattle.basis.specs.Internal.{Stored};
 ghost use Rattle.altdude.specs.Symbols.{byte_of};
 ghost use Rattle.altdude.specs.Encoding.{group_of, item_of, remembered_after, label_of};
 
@@ -12,9 +12,10 @@ fn group_length(x: u32) -> usize
 {
     let mut n = 1;
     let mut y = x / 16;
+    // Kept as a `while`: it divides until nothing is left, and no index is counted.
     while 0 < y {
         n += 1;
-        y = y / 16;
+        y /= 16;
     }
     n
 }
@@ -43,33 +44,29 @@ pub(crate) fn label_length(text: &[u32]) -> usize
 {
     let mut n = 0;
     let mut remembered = 96;
-    let mut i = 0;
-    while i < text.len() {
-        let point = text[i];
+    for &point in text {
         n += item_length(remembered, point);
         if 63 < n {
             return 64;
         }
         remembered = remembered_after(remembered, point);
-        i += 1;
     }
     n
 }
 
 // Stores the group of x at an index, and answers the index after it.
+// Kept: `label, at` are two parameters here and below: `Stored` speaks of a buffer and an index, so each contract would take a cursor struct apart.
 fn put_group(x: u32, label: &mut [u8], at: usize) -> usize
     requires { at + length (group_of x []) ≤ length label.old }
-    ensures value { result ≡ at + length (group_of x []) }
-    ensures label_after { label.new ≡ sets label.old at (map byte_of (group_of x [])) }
+    ensures { Stored label.old at (map byte_of (group_of x [])) label.new result }
 {
     let end = at + group_length(x);
-    let mut j = end - 1;
-    label[j] = symbols::byte_of((x % 16) as u8);
+    let last = end - 1;
+    label[last] = symbols::byte_of((x % 16) as u8);
     let mut y = x / 16;
-    while 0 < y {
-        j -= 1;
+    for j in (at..last).rev() {
         label[j] = symbols::byte_of((16 + y % 16) as u8);
-        y = y / 16;
+        y /= 16;
     }
     end
 }
@@ -77,8 +74,7 @@ fn put_group(x: u32, label: &mut [u8], at: usize) -> usize
 // Stores the item of a point at an index, and answers the index after it.
 fn put_item(remembered: u32, point: u32, label: &mut [u8], at: usize) -> usize
     requires { at + length (item_of remembered point []) ≤ length label.old }
-    ensures value { result ≡ at + length (item_of remembered point []) }
-    ensures label_after { label.new ≡ sets label.old at (map byte_of (item_of remembered point [])) }
+    ensures { Stored label.old at (map byte_of (item_of remembered point [])) label.new result }
 {
     if point == 45 {
         label[at] = 45;
@@ -95,12 +91,9 @@ pub(crate) fn put_label(text: &[u32], label: &mut [u8]) -> usize
 {
     let mut at = 0;
     let mut remembered = 96;
-    let mut done = 0;
-    while done < text.len() {
-        let point = text[done];
+    for &point in text {
         at = put_item(remembered, point, label, at);
         remembered = remembered_after(remembered, point);
-        done += 1;
     }
     at
 }

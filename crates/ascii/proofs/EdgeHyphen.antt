@@ -1,24 +1,32 @@
 -- Laws on hyphens at an edge: the tests of the first and of the last element, and functions that
 -- keep the edges of a row.
 use Prim.Native.Nat.{ℕ, suc, ◌-◌}
-use mathlib.Core.Path.{◌≡◌, refl, sym, ap₂, ◌∙◌}
+use mathlib.Core.Path.{◌≡◌, refl, sym, ap, ap₂, ◌∙◌}
 use mathlib.Core.Bool.{true, false, ◌||◌, or-true}
 use mathlib.Core.Logic.{◌↔◌, ◌⊎◌, inl, inr}
 use mathlib.Core.List.{List, [], ◌∷◌, map}
 use lib.Dec.{eqb}
-use lib.ListN.{length}
+use lib.ListN.{length, length-map}
 use borrow.Author.Tests.{eqb-true, eqb-false, eq-eqb, ne_eqb}
 use native.Mathlib.Omega.{arith}
+use Rattle.std.proofs.Common.{Option}
+use Rattle.std.specs.List.{slice_get}
+use Rattle.std.specs.Option.{unwrap_or, option_map}
+use Rattle.std.proofs.lemmas.Option.{slice_get-map, unwrap_or-slice_get}
 use Rattle.basis.specs.Rows.{at}
 use Rattle.basis.proofs.Tests.{cases, by-lt}
 use Rattle.ascii.specs.Case.{small}
 use Rattle.ascii.specs.Ldh.{has_edge_hyphen}
 use Rattle.ascii.proofs.Case.{small-inside, small-below, small-above}
 
-pub edge_none : (xs : List ℕ) → length xs ≡ 0 → false ≡ has_edge_hyphen xs
-unfolding has_edge_hyphen
-edge_none [] e = refl
-edge_none (x ∷ xs) e = absurd (omega arith)
+-- the numbers of elements: what is read of a row at an index, and at its end
+module _ {A : Type 0} (number : A → ℕ) (xs : List A) (o : Option A) (n : ℕ) (number_is : n ≡ unwrap_or (option_map number o) 0) where
+  pub number_at : (i : ℕ) → o ≡ slice_get xs i → n ≡ at (map number xs) i
+  number_at i e =
+      number_is ∙ ap (λ (r : Option ℕ). unwrap_or r 0) (ap (option_map number) e ∙ sym (slice_get-map number xs i)) ∙ unwrap_or-slice_get (map number xs) i 0
+
+  pub number_last : o ≡ slice_get xs (length xs - 1) → n ≡ at (map number xs) (length (map number xs) - 1)
+  number_last e = rw (length-map xs number) (number_at (length xs - 1) e)
 
 pub edge-first : (xs : List ℕ) → at xs 0 ≡ 45 → true ≡ has_edge_hyphen xs
 unfolding has_edge_hyphen
@@ -82,6 +90,3 @@ edges-map f keeps l = edges-alike (map f l) l (first l) (last l 0 0 refl)
     last : (l : List ℕ) (d c : ℕ) → eqb d 45 ≡ eqb c 45 → eqb (last_of d (map f l)) 45 ≡ eqb (last_of c l) 45
     last [] d c h = h
     last (x ∷ l) d c h = last l (f x) x (keeps x)
-
--- what the tests of the edges need
-pub ruleset edge_tests = (edge_none, edge-first, edge-last)

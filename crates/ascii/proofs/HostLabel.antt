@@ -1,16 +1,14 @@
 -- Laws on host labels: each test that fails answers no, where the others pass LDH decides, and what a host label has.
-use Prim.Native.Nat.{ℕ, ◌-◌, ◌≤◌, ◌<◌}
+use Prim.Native.Nat.{ℕ, ◌≤◌, ◌<◌}
 use mathlib.Core.Path.{◌≡◌, refl, sym, ap, ◌∙◌}
 use mathlib.Core.Bool.{Bool, true, false, not}
 use mathlib.Core.List.{List}
-use lib.ListN.{length}
-use borrow.Author.Tests.{not-true, eq-eqb, ne_eqb}
+use lib.ListN.{length, length-map}
+use borrow.Author.Tests.{not-true}
 use native.Mathlib.Omega.{arith}
-use Rattle.basis.specs.Rows.{at}
 use Rattle.basis.specs.Tests.{both}
 use Rattle.basis.proofs.Tests.{cases, both_left, both_right, both_false, within-true, within-below, within-above, within_low, within-high}
 use Rattle.ascii.specs.Ldh.{is_all_ldh, has_edge_hyphen, is_host_label}
-use Rattle.ascii.proofs.EdgeHyphen.{edge-first, edge-last}
 
 -- three tests: one of the last two fails, or the first decides
 module _ (a b c : Bool) where
@@ -44,16 +42,6 @@ module _ (xs : List ℕ) where
     unfolding is_host_label
     host-label-ldh e some short = sym (first-decides _ _ _ (within-true _ _ _ (omega arith) (omega arith)) (ap not (sym edge_is ∙ e)))
 
-  -- by the first and the last element
-  pub host-label-first : at xs 0 ≡ 45 → false ≡ is_host_label xs
-  host-label-first e = host-label-edge true (edge-first xs e) refl
-
-  pub host-label-last : (at xs 0 ≡ 45 → ⊥) → at xs (length xs - 1) ≡ 45 → false ≡ is_host_label xs
-  host-label-last n e = host-label-edge _ (edge-last xs n) (eq-eqb _ 45 e)
-
-  pub host-label-rest : (at xs 0 ≡ 45 → ⊥) → (at xs (length xs - 1) ≡ 45 → ⊥) → 1 ≤ length xs → length xs ≤ 63 → is_all_ldh xs ≡ is_host_label xs
-  host-label-rest n e = host-label-ldh _ (edge-last xs n) (ne_eqb _ 45 e)
-
 -- what a host label has, and all that it takes to be one
 pub record HostLabel (xs : List ℕ) : Type 0 where
   pub ldh : is_all_ldh xs ≡ true
@@ -77,6 +65,4 @@ pub host-is : (xs : List ℕ) → HostLabel xs → is_host_label xs ≡ true
 host-is xs h = sym (host-label-ldh xs (has_edge_hyphen xs) refl h.edges h.some h.short) ∙ h.ldh
 
 -- what the tests of a host label need
-pub ruleset host_label_tests = (host-label-empty, host-label-long, host-label-edge, host-label-ldh)
-
-pub ruleset host_label_rules = (host-label-empty, host-label-long, host-label-first, host-label-last, host-label-rest)
+pub ruleset host_label_tests = (host-label-empty, host-label-long, host-label-edge, host-label-ldh, length-map)

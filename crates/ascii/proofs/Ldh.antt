@@ -1,15 +1,12 @@
 -- LDH by the range of the number.
 use Prim.Native.Nat.{ℕ, ◌≤◌, ◌<◌}
-use mathlib.Core.Path.{◌≡◌, ap}
-use mathlib.Core.Bool.{true, false, not}
-use mathlib.Core.List.{List}
+use mathlib.Core.Path.{◌≡◌, sym, ◌∙◌}
+use mathlib.Core.Bool.{true, false}
 use lib.Dec.{eqb, ltb}
-use lib.ListN.{length, get_or}
-use borrow.Author.Tests.{ne_eqb}
+use borrow.Author.Tests.{eq-eqb, ne_eqb, lt-ltb}
 use native.Mathlib.Omega.{arith}
-use Rattle.basis.proofs.Scan.{passed_none, passed-more, found-failing, holds-throughout}
 use Rattle.basis.proofs.Tests.{cases, within-true, within-below, within-above, within-from}
-use Rattle.ascii.specs.Ldh.{is_ldh, is_all_ldh}
+use Rattle.ascii.specs.Ldh.{is_ldh}
 
 module _ (x : ℕ) where
   pub ldh-under : x < 48 → eqb x 45 ≡ is_ldh x
@@ -46,13 +43,15 @@ module _ (x : ℕ) where
     unfolding is_ldh
     ldh-small g = rw (no-hyphen, within-above 48 57 x (omega arith), within-above 65 90 x (omega arith)) (within-from 97 122 x g)
 
+  pub ldh-letter : 97 ≤ x → x ≤ 122 → true ≡ is_ldh x
+  ldh-letter g k = sym (lt-ltb x 123 (omega arith)) ∙ ldh-small (omega arith) g
+
+  -- below the digits
+  pub ldh-hyphen : x ≡ 45 → true ≡ is_ldh x
+  ldh-hyphen e = sym (eq-eqb x 45 e) ∙ ldh-under (omega arith)
+
+  pub ldh-no-hyphen : (x ≡ 45 → ⊥) → x < 48 → false ≡ is_ldh x
+  ldh-no-hyphen n h = sym (ne_eqb x 45 n) ∙ ldh-under h
+
 -- what `is_ldh` needs
-pub ruleset ldh_by_range = (ldh-under, ldh-digit, ldh-between, ldh-capital, ldh-below-a, ldh-small)
-
--- one that is not LDH
-pub not-all-ldh : (xs : List ℕ) (i : ℕ) → i < length xs → is_ldh (get_or xs i 0) ≡ false → false ≡ is_all_ldh xs
-unfolding is_all_ldh
-not-all-ldh xs i h e = found-failing _ _ i h (ap not e)
-
--- what a scan for an element that is not LDH needs
-pub ruleset scan_rules = (passed_none, passed-more, not-all-ldh, holds-throughout)
+pub ruleset ldh_by_range = (ldh-hyphen, ldh-no-hyphen, ldh-digit, ldh-between, ldh-capital, ldh-below-a, ldh-letter, ldh-above)

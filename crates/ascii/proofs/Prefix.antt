@@ -2,31 +2,58 @@
 -- comparison byte by byte.
 use Prim.Native.Nat.{ℕ, zero, suc, ◌≤◌, ◌<◌}
 use mathlib.Core.Path.{◌≡◌, refl, sym, ap, ap₂, ◌∙◌, fun_ext}
-use mathlib.Core.Bool.{Bool, true, false, not}
+use mathlib.Core.Bool.{Bool, true, false}
+use mathlib.Core.Logic.{◌↔◌}
 use mathlib.Core.List.{List, [], ◌∷◌, ◌++◌, map}
 use lib.Dec.{eqb, leb}
-use lib.ListN.{length, drop, length-map, length-append, get_or-append}
+use lib.ListN.{length, take, drop, length-map, length-append, get_or-append}
+use Rattle.std.specs.Bool.{IsTrue}
+use Rattle.std.specs.Char.{to_ascii_lowercase}
+use Rattle.std.proofs.lemmas.List.{ext_get_or, length-take, get_or-take}
+use Rattle.std.proofs.lemmas.Str.Ascii.{lowercase_is}
 use lib.Seq.{drop_at}
-use borrow.Author.Tests.{leb-true, le-leb, lt-leb, eqb-true, eq-eqb, ne_eqb}
+use borrow.Author.Tests.{leb-true, le-leb, lt-leb, eqb-true, eq-eqb}
 use native.Mathlib.Omega.{arith}
 use Rattle.basis.specs.Tests.{both, every}
 use Rattle.basis.specs.Rows.{at}
-use Rattle.basis.proofs.Tests.{both_left, both_right, both_true, at_each, each_at}
+use Rattle.basis.proofs.Lists.{at_map}
+use Rattle.basis.proofs.Tests.{cases, by-lt, true-not-false, both_left, both_right, both_true, at_each, each_at}
 use Rattle.ascii.specs.Case.{small}
 use Rattle.ascii.specs.Prefix.{has_prefix, after_prefix}
-use Rattle.ascii.proofs.Case.{small-small, at_small}
+use Rattle.ascii.proofs.Case.{small-inside, small-below, small-above, small-small, at_small}
 
 -- the element of the row at an index is that of the prefix, case ignored
 abbrev pub same_at : List ℕ → List ℕ → ℕ → Bool
 same_at prefix l i = eqb (small (at l i)) (small (at prefix i))
 
--- one of its bytes and one of the prefix, by their small forms
-module _ (x y a b : ℕ) (a_is : a ≡ small x) (b_is : b ≡ small y) where
-  pub bytes-differ : (a ≡ b → ⊥) → not (eqb (small x) (small y)) ≡ true
-  bytes-differ n = ap not (sym (ap₂ eqb a_is b_is) ∙ ne_eqb a b n)
+-- tests of one fact are the same
+same-test : (a b : Bool) {P : Type 0} → (a ≡ true) ↔ P → P ↔ (b ≡ true) → a ≡ b
+same-test a b e f =
+    cases a (λ t. t ∙ sym (f.0 (e.0 t))) (λ n. cases b (λ t. absurd (true-not-false (e.1 (f.1 t)) n)) (λ m. n ∙ sym m))
 
-  pub bytes-alike : a ≡ b → not (eqb (small x) (small y)) ≡ false
-  bytes-alike e = ap not (sym (ap₂ eqb a_is b_is) ∙ eq-eqb a b e)
+-- the library's small form is ours
+lower-small : (b : ℕ) → to_ascii_lowercase b ≡ small b
+lower-small b =
+    by-lt b 65 (λ h. (lowercase_is b).1 h ∙ sym (small-below b h))
+    (λ l. by-lt 90 b (λ h. (lowercase_is b).2 h ∙ sym (small-above b h)) (λ h. (lowercase_is b).0 (l, h) ∙ sym (small-inside b l h)))
+
+-- the front of the row, as long as the prefix, is the prefix, case ignored
+front_alike : (p l : List ℕ) → length p ≤ length l → (map to_ascii_lowercase (take (length p) l) ≡ map to_ascii_lowercase p) ↔ (every (length p) (same_at p l) ≡ true)
+front_alike p l h = (
+  λ e. each_at _ _ (λ i g. eq-eqb _ _ (sym (front i g) ∙ ap (λ (k : List ℕ). at k i) e ∙ whole i g)),
+  λ e. ext_get_or 0 _ _ (omega (arith, long, length-map p to_ascii_lowercase)) (λ i g. let k : i < length p = omega (arith, long) in front i k ∙ eqb-true _ _ (at_each _ _ e i k) ∙ sym (whole i k)),
+)
+  where
+    long : length (map to_ascii_lowercase (take (length p) l)) ≡ length p
+    long = omega (arith, length-map (take (length p) l) to_ascii_lowercase, length-take (length p) l)
+
+    front : (i : ℕ) → i < length p → at (map to_ascii_lowercase (take (length p) l)) i ≡ small (at l i)
+    front i g =
+        at_map to_ascii_lowercase (take (length p) l) i (omega (arith, h, g, length-take (length p) l))
+        ∙ lower-small (at (take (length p) l) i) ∙ ap small (get_or-take (length p) l i 0 g)
+
+    whole : (i : ℕ) → i < length p → at (map to_ascii_lowercase p) i ≡ small (at p i)
+    whole i g = at_map to_ascii_lowercase p i g ∙ lower-small (at p i)
 
 module _ (prefix l : List ℕ) where
   -- a row that has the prefix
@@ -49,9 +76,9 @@ module _ (prefix l : List ℕ) where
   unfolding has_prefix both
   prefix-short h = rw (lt-leb (length prefix) (length l) h)
 
-  pub prefix-compared : length prefix ≤ length l → (same : Bool) → same ≡ every (length prefix) (same_at prefix l) → same ≡ has_prefix prefix l
+  pub prefix-compared : length prefix ≤ length l → (same : Bool) → (IsTrue same ↔ (map to_ascii_lowercase (take (length prefix) l) ≡ map to_ascii_lowercase prefix)) → same ≡ has_prefix prefix l
   unfolding has_prefix both
-  prefix-compared h same e = rw (le-leb (length prefix) (length l) h) e
+  prefix-compared h same e = rw (le-leb (length prefix) (length l) h) (same-test same (every (length prefix) (same_at prefix l)) e (front_alike prefix l h))
 
   -- the small form of a row
   pub prefix-small : has_prefix prefix (map small l) ≡ has_prefix prefix l

@@ -1,14 +1,14 @@
 -- Laws on rows of characters: their values, when all are quintets, and what the code writes one by one.
 use Prim.Native.Nat.{ℕ, ◌≤◌, ◌<◌}
-use mathlib.Core.Path.{◌≡◌, ◌∙◌}
+use mathlib.Core.Path.{◌≡◌, ap, ◌∙◌}
 use mathlib.Core.Bool.{not}
-use mathlib.Core.List.{List}
-use lib.ListN.{length, length-map}
+use mathlib.Core.List.{List, ◌++◌, append-nil}
+use lib.ListN.{length, drop, drop_of_length-le, length-map}
 use borrow.Author.Tests.{ltb-true, not-false}
 use native.Mathlib.Omega.{arith}
 use Rattle.basis.specs.Rows.{at, tabulate, AllBelow}
 use Rattle.basis.proofs.Tests.{first-le, first-before}
-use Rattle.basis.proofs.Lists.{at_map, map-tabulate}
+use Rattle.basis.proofs.Lists.{at_map, map-tabulate, fill_done}
 use Rattle.alphabet.specs.Alphabet.{character_of, value_of, is_character, values_of}
 use Rattle.base32.specs.Bits.{regroup}
 use Rattle.base32.specs.Form.{octet_count}
@@ -50,3 +50,8 @@ characters-tabulate alphabet os n e = rw (e, map-tabulate)
 pub length-characters_of : (alphabet os : List ℕ) → length (characters_of alphabet os) ≡ quintet_count (length os)
 unfolding characters_of
 length-characters_of alphabet os = length-map (to_quintets os) (character_of alphabet) ∙ length-to_quintets os
+
+-- a part of a buffer that was filled one by one to its end
+pub fill-part : (now part whole : List ℕ) (f : ℕ → ℕ) (i n : ℕ) → length part ≡ n → i ≡ n → whole ≡ tabulate n f → now ≡ tabulate i f ++ drop i part → now ≡ whole
+fill-part now part whole f i n long e w q =
+    fill_done now part whole f i n e w q ∙ ap (λ (l : List ℕ). whole ++ l) (drop_of_length-le part {i = n} (omega arith)) ∙ append-nil whole

@@ -11,26 +11,23 @@ ghost use Rattle.alphabet.specs.Alphabet.{lace, values_of};
 ghost use Rattle.base32.specs.Base32.{characters_of, to_octets};
 ghost use Rattle.base32.specs.Answer.{encode_outcome, decode_outcome};
 
-use basis::{ByteCount, BytesAnswer, ErrorCode};
+use basis::{ByteCount, ErrorCode, Refusal};
 
 // Writes the Base32 characters of the octets.
-pub fn encode(octets: &[u8], characters: &mut [u8]) -> BytesAnswer
+pub fn encode(octets: &[u8], characters: &mut [u8]) -> Result<ByteCount, Refusal>
     ensures result_value { bytes_outcome result ≡ encode_outcome octets.now (length characters.old) }
     ensures characters_after { characters.new ≡ buffer_after (encode_outcome octets.now (length characters.old)) (characters_of lace octets.now) characters.old }
 {
     let n = quintets::quintet_count(octets.len());
     if characters.len() < n {
-        return BytesAnswer::Error {
-            code: ErrorCode::Capacity,
-            position: 0,
-        };
+        return Err(ErrorCode::Capacity.at(0));
     }
     quintets::put_characters(octets, n, characters);
-    BytesAnswer::Bytes(ByteCount(n))
+    Ok(ByteCount(n))
 }
 
 // Reads Base32 characters, of either case, and writes their octets.
-pub fn decode(characters: &[u8], octets: &mut [u8]) -> BytesAnswer
+pub fn decode(characters: &[u8], octets: &mut [u8]) -> Result<ByteCount, Refusal>
     ensures result_value { bytes_outcome result ≡ decode_outcome characters.now (length octets.old) }
     ensures octets_after { octets.new ≡ buffer_after (decode_outcome characters.now (length octets.old)) (to_octets (values_of lace characters.now)) octets.old }
 {
@@ -38,31 +35,19 @@ pub fn decode(characters: &[u8], octets: &mut [u8]) -> BytesAnswer
     let bad = outside::first_outside_lace(characters);
     let lawful = octets::length_lawful(characters.len());
     if octets.len() < n {
-        return BytesAnswer::Error {
-            code: ErrorCode::Capacity,
-            position: 0,
-        };
+        return Err(ErrorCode::Capacity.at(0));
     }
     if bad < characters.len() {
-        return BytesAnswer::Error {
-            code: ErrorCode::OutsideAlphabet,
-            position: bad,
-        };
+        return Err(ErrorCode::OutsideAlphabet.at(bad));
     }
     if !lawful {
-        return BytesAnswer::Error {
-            code: ErrorCode::NotWellFormed,
-            position: 0,
-        };
+        return Err(ErrorCode::NotWellFormed.at(0));
     }
     // The spare bits are the start of the octet after the last whole one.
     let spare = octets::octet(characters, n);
     if spare != 0 {
-        return BytesAnswer::Error {
-            code: ErrorCode::NotWellFormed,
-            position: 0,
-        };
+        return Err(ErrorCode::NotWellFormed.at(0));
     }
     octets::put_octets(characters, n, octets);
-    BytesAnswer::Bytes(ByteCount(n))
+    Ok(ByteCount(n))
 }

@@ -41,6 +41,7 @@ fn value_at(characters: &[u8], i: usize) -> usize
 }
 
 // Octet i of the characters' values: eight bits out of three quintets, zeros past the end.
+// Kept beside `quintet`: one function for both would take both widths, the window's size and a reader, for three lines each.
 pub(crate) fn octet(characters: &[u8], i: usize) -> u8
     requires i_bound { i < 2 ^ 63 }
     requires characters_value { first_outside lace characters.now ≡ length characters.now }
@@ -54,15 +55,14 @@ pub(crate) fn octet(characters: &[u8], i: usize) -> u8
 }
 
 // Writes the n octets of the characters.
+// Kept beside `put_characters`: one function over `impl Fn(usize) -> u8` would have this loop's body as its clause, and no less to write.
 pub(crate) fn put_octets(characters: &[u8], n: usize, octets: &mut [u8])
     requires n_value { n ≡ octet_count (length characters.now) }
     requires n_in_bounds { n ≤ length octets.old }
     requires characters_value { first_outside lace characters.now ≡ length characters.now }
     ensures { octets.new ≡ to_octets (values_of lace characters.now) ++ drop n octets.old }
 {
-    let mut i = 0;
-    while i < n {
-        octets[i] = octet(characters, i);
-        i += 1;
+    for (i, slot) in octets[..n].iter_mut().enumerate() {
+        *slot = octet(characters, i);
     }
 }

@@ -18,11 +18,7 @@ fn octet_at(octets: &[u8], i: usize) -> usize
     ensures value { result ≡ at octets.now i }
     ensures upper_bound { result < 256 }
 {
-    if i < octets.len() {
-        octets[i] as usize
-    } else {
-        0
-    }
+    usize::from(octets.get(i).copied().unwrap_or(0))
 }
 
 // Quintet i of the octets: five bits out of two octets.
@@ -41,9 +37,7 @@ pub(crate) fn put_characters(octets: &[u8], n: usize, characters: &mut [u8])
     requires n_in_bounds { n ≤ length characters.old }
     ensures { characters.new ≡ characters_of lace octets.now ++ drop n characters.old }
 {
-    let mut i = 0;
-    while i < n {
-        characters[i] = alphabet::lace_character(quintet(octets, i));
-        i += 1;
+    for (i, slot) in characters[..n].iter_mut().enumerate() {
+        *slot = alphabet::lace_character(quintet(octets, i));
     }
 }

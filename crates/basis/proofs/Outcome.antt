@@ -1,6 +1,6 @@
 -- Laws on outcomes: the tests in their turn, what a function leaves in the buffer, and the numbers of the errors.
 use Prim.Native.Nat.{ℕ, suc, ◌≤◌, ◌<◌}
-use mathlib.Core.Path.{◌≡◌, refl, sym, ◌∙◌}
+use mathlib.Core.Path.{◌≡◌, refl, sym, ap, ◌∙◌}
 use mathlib.Core.Bool.{Bool, true, false}
 use mathlib.Core.List.{List, ◌++◌}
 use lib.Dec.{ltb, eqb}
@@ -8,7 +8,11 @@ use lib.ListN.{length, take, drop}
 use borrow.Author.Tests.{lt-ltb, le-ltb, eq-eqb, ne_eqb}
 use denote.Enum.Declared.{tag_of}
 use native.Mathlib.Omega.{arith}
+use Rattle.std.proofs.Common.{Result, Err}
+use Rattle.std.specs.Result.{IsErr, IsErrAnd}
+use Rattle.std.proofs.lemmas.Result.{err_from_is_err_and}
 use Rattle.basis.specs.Outcome.{Outcome, done, refused, refused_if, and_then, buffer_after, number_of}
+use Rattle.basis.specs.declared.Refusal.{Refusal}
 use Rattle.basis.specs.declared.ErrorCode.{ErrorCode}
 use Rattle.basis.specs.declared.ErrorCode.TheVariants.{Capacity, Empty, TooLong, NotAPoint, EdgeHyphen, HostLabel, OutsideAlphabet, NoPrefix, NotWellFormed, UnpairedSurrogate, UnknownScheme, OddByteCount, Truncated, Malformed, BadMark, AmbiguousPart}
 use Rattle.basis.specs.contracts.ErrorCode.{the_type}
@@ -61,6 +65,14 @@ module _ (number end : ℕ) (next : Outcome) (found first : ℕ) (is : found ≡
 
   pub pass-found : end ≤ found → refused_if (ltb first end) number first next ≡ next
   pass-found h = rw (← is) (pass_below number found next found end h)
+
+-- a refusal as `at` made it, and an answer as a `?` handed it on
+pub refusal_is : {code : ErrorCode} {position : ℕ} {refusal : Refusal} → refusal ≡ record { code = code; position = position }
+    → refused (number_of refusal.code) refusal.position ≡ refused (number_of code) position
+refusal_is e = ap (λ r. refused (number_of r.code) r.position) e
+
+pub handed_on : {T : Type 0} {answer : Result T Refusal} {refusal : Refusal} → IsErr answer × IsErrAnd answer (λ r. r ≡ refusal) → answer ≡ Err refusal
+handed_on {answer = answer} p = let q = err_from_is_err_and answer p.1 in q.1 ∙ ap Err q.2
 
 -- a function that answers with its outcome, and leaves the buffer or has put the values in front
 pub refused-leaves : (outcome : Outcome) (values buffer : List ℕ) (number position : ℕ) → outcome ≡ refused number position

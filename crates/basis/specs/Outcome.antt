@@ -1,9 +1,9 @@
 -- What a function answers, in the paper's numbers, and what it leaves in the buffer.
-use Rattle.std.specs.Prelude.{ℕ, Bool, true, false, List, ◌++◌, drop}
+use Rattle.std.specs.Prelude.{ℕ, Bool, true, false, List, ◌++◌, drop, Result, Ok, Err}
 use Rattle.basis.specs.declared.ErrorCode.{ErrorCode}
 use Rattle.basis.specs.declared.ErrorCode.TheVariants.{Capacity, Empty, TooLong, NotAPoint, EdgeHyphen, HostLabel, OutsideAlphabet, NoPrefix, NotWellFormed, UnpairedSurrogate, UnknownScheme, OddByteCount, Truncated, Malformed, BadMark, AmbiguousPart}
-use Rattle.basis.specs.declared.BytesAnswer.{BytesAnswer}
-use Rattle.basis.specs.declared.BytesAnswer.TheVariants.{Bytes, Error}
+use Rattle.basis.specs.declared.Refusal.{Refusal}
+use Rattle.basis.specs.declared.ByteCount.{ByteCount}
 
 -- the number of each cause of refusal
 abbrev pub number_of : ErrorCode → ℕ
@@ -34,10 +34,14 @@ unfoldable pub count_of : Outcome → ℕ
 count_of (done count) = count
 count_of (refused number position) = 0
 
--- the count of an answer in bytes, or its error's number and position
-unfoldable pub bytes_outcome : BytesAnswer → Outcome
-bytes_outcome (Bytes count) = done count.0
-bytes_outcome (Error code position) = refused (number_of code) position
+-- what an answer says: done, with what its value counts, or refused, with the error's number and position
+unfoldable pub outcome_by : {T : Type 0} (count : T → ℕ) → Result T Refusal → Outcome
+outcome_by count (Ok value) = done (count value)
+outcome_by count (Err refusal) = refused (number_of refusal.code) refusal.position
+
+-- what an answer in bytes says
+abbrev pub bytes_outcome : Result ByteCount Refusal → Outcome
+bytes_outcome answer = outcome_by (λ count. count.0) answer
 
 -- refused if the cause holds, else as what follows says: nested, these give the order of the refusals
 unfoldable pub refused_if : Bool → ℕ → ℕ → Outcome → Outcome

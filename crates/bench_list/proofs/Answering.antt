@@ -5,20 +5,21 @@ use mathlib.Core.List.{List, [], ◌∷◌, ◌++◌, append-nil, append_assoc}
 use lib.ListN.{length, take, drop, length-take, length-drop, drop_of_length-le}
 use lib.Seq.{drop-drop, length-take-le}
 use native.Mathlib.Omega.{arith}
+use Rattle.std.proofs.Common.{Option, Some, None, Result, Ok}
+use Rattle.std.specs.declared.ops.ControlFlow.{ControlFlow}
+use Rattle.std.specs.declared.ops.ControlFlow.TheVariants.{Continue}
 use Rattle.basis.proofs.Parts.{front-is, front_fits, front_long}
 use Rattle.lines.specs.Step.{line_end, held_after, in_front, step_answer}
 use Rattle.lines.specs.Run.{ended_in, held_in}
 use Rattle.lines.specs.declared.LineStep.{LineStep}
-use Rattle.lines.specs.declared.LineStep.TheVariants.{Ended, More}
-use Rattle.lines.proofs.Stepping.{step-ended, step-more, answers-more}
+use Rattle.lines.proofs.Stepping.{step-ended, step-more, answers-held, answers-more}
 use Rattle.lines.proofs.Taken as taken
 use Rattle.report.proofs.Filling.{Filling, filling-none, filling-more}
-use Rattle.streams.specs.declared.ReadAnswer.{ReadAnswer}
+use Rattle.streams.specs.declared.ReadFailed.{ReadFailed}
 use Rattle.bench_list.specs.Listing.{bench_line, bench_lines}
 use Rattle.bench_list.specs.Answered.{Answered}
 use Rattle.bench_list.specs.Turns.{TurnLeaves}
-use Rattle.bench_list.specs.declared.chunks.Turn.{Turn}
-use Rattle.bench_list.specs.declared.chunks.Turn.TheVariants.{Lines}
+use Rattle.bench_list.specs.declared.chunks.Progress.{Progress}
 use Rattle.bench_list.proofs.Widths.{line-fits}
 
 pub lines-append : (lines more : List (List ℕ)) → bench_lines (lines ++ more) ≡ bench_lines lines ++ bench_lines more
@@ -83,19 +84,24 @@ module _ {limit : ℕ} {before chunk old out : List ℕ} {at : ℕ} {line : List
     line_kept = taken.line_kept chunk line held from now is ∙ a.long
 
     -- the chunk ended before the line
-    pub answering-rest : (answer : LineStep) (n : ℕ) → answer ≡ More n → answer ≡ step_answer from (drop from chunk) (length holding) → Answered limit before chunk old out at now n
-    answering-rest answer n g e =
-        let s = answers-more from (drop from chunk) (length holding) n (sym g ∙ e) in
-        let t = step-more (length line) (take held line) (drop from chunk) taken-fits s.0 in
-        finish (rw (sym a.long) t.0) holding now n (rw (sym a.long) t.1) s.1 (front-is n holding _ now s.1 is)
+    pub answering-rest : (answer : LineStep) → answer ≡ step_answer from (drop from chunk) (length holding) → answer.next ≡ None
+        → Answered limit before chunk old out at now answer.held
+    answering-rest answer e g =
+        let past = answers-more from (drop from chunk) (length holding) answer e g in
+        let count = answers-held from (drop from chunk) (length holding) answer e in
+        let t = step-more (length line) (take held line) (drop from chunk) taken-fits past in
+        finish (rw (sym a.long) t.0) holding now answer.held (rw (sym a.long) t.1) count (front-is answer.held holding _ now count is)
 
     -- the line ended
-    module _ (answer : LineStep) (next n : ℕ) (g : answer ≡ Ended next n) (e : answer ≡ step_answer from (drop from chunk) (length holding)) where
-      step : (line_end (drop from chunk) < length (drop from chunk)) × (next ≡ from + line_end (drop from chunk) + 1) × (n ≡ length holding)
-      step = taken.ended chunk line held from now is answer e next n g
+    module _ (answer : LineStep) (e : answer ≡ step_answer from (drop from chunk) (length holding)) (next : ℕ) (g : answer.next ≡ Some next) where
+      abbrev n : ℕ
+      n = answer.held
+
+      step : (line_end (drop from chunk) < length (drop from chunk)) × (next ≡ from + line_end (drop from chunk) + 1)
+      step = taken.ended chunk line held from now is answer e next g
 
       line-is : take n now ≡ holding
-      line-is = front-is n holding _ now step.2 is
+      line-is = front-is n holding _ now (taken.line-held chunk line held from now is answer e) is
 
       -- and its answer was put behind the others
       pub answering-more : (part : List ℕ) → part ≡ in_front (bench_line (take n now)) (take (length out - at) (drop at out)) → (put : ℕ) → put ≡ length (bench_line (take n now))
@@ -129,8 +135,13 @@ module _ {limit : ℕ} {before chunk old out : List ℕ} {written : ℕ} {line :
   pub held_fits : held ≤ length line
   held_fits = omega (arith, ap length a.holds, length-take held line, a.held-count)
 
+-- a read's answer, by what is in it
+pub answer-is : {answer : Result (Option ℕ) ReadFailed} {given got : Option ℕ} → answer ≡ Ok given → given ≡ got → answer ≡ Ok got
+answer-is e d = e ∙ ap (λ (g : Option ℕ). Ok g) d
+
 -- the bytes that a turn got were answered
-pub turn-answered : (answer : ReadAnswer) (held : ℕ) (chunk line₀ line out₀ out : List ℕ) (turn : Turn) (got written kept : ℕ) → TurnLeaves answer held chunk line₀ line out₀ out turn
-    → turn ≡ Lines got written kept → Answered (length line₀) (take held line₀) (take got chunk) out₀ out written line kept
+pub turn-answered : (answer : Result (Option ℕ) ReadFailed) (held : ℕ) (chunk line₀ line out₀ out : List ℕ) (turn : ControlFlow (Result (Unit {0}) ReadFailed) Progress) (progress : Progress)
+    → TurnLeaves answer held chunk line₀ line out₀ out turn → turn ≡ Continue progress
+    → (got : ℕ) × Answered (length line₀) (take held line₀) (take got chunk) out₀ out progress.written line progress.held
 unfolding TurnLeaves
-turn-answered answer held chunk line₀ line out₀ out turn got written kept l g = (rw g at l).1
+turn-answered answer held chunk line₀ line out₀ out turn progress l g = let (got, is, a) = rw g at l in (got, a)

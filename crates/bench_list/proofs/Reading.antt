@@ -1,4 +1,5 @@
 -- What the C interface answers and leaves for a line, in the terms of what is printed.
+use Rattle.std.proofs.Common.{Some}
 use Prim.Native.Nat.{ℕ, ◌+◌, ◌-◌, ◌≤◌, ◌<◌}
 use mathlib.Core.Path.{◌≡◌, refl, ap, ◌∙◌}
 use mathlib.Core.List.{List, ◌++◌}
@@ -13,14 +14,13 @@ use Rattle.utf16.proofs.Refusals.{text-bytes-done}
 use Rattle.scheme.specs.Coding.{decode_outcome, text_of}
 use Rattle.scheme.specs.Naming.{row_of, schemes, number_of, first_with, own_number_names, number_names, is_known, scheme_named}
 use Rattle.scheme.specs.declared.Scheme.TheVariants.{Lace}
-use Rattle.scheme.specs.declared.Named.TheVariants.{Known}
 use Rattle.scheme.proofs.Coding.{decoded-text, decoded-short}
 use Rattle.firmware.specs.Answer.{answer_of, read_by, read_outcome, read_text}
 use Rattle.report.specs.Lines.{points_line, refused_line}
 use Rattle.bench_list.specs.Listing.{line_for, scheme_number, bench_line}
 
 -- the scheme that is asked for is LACE
-asks-lace : number_names scheme_number ≡ Known Lace
+asks-lace : number_names scheme_number ≡ Some Lace
 unfolding number_names own_number_names first_with schemes number_of row_of
 asks-lace = refl
 

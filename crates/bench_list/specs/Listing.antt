@@ -1,12 +1,12 @@
 -- What is printed for a line, for a row of lines, and by the run over an input that comes in chunks.
-use Rattle.std.specs.Prelude.{ℕ, List, [], ◌∷◌, ◌++◌}
+use Rattle.std.specs.Prelude.{ℕ, List, [], ◌∷◌, ◌++◌, Result}
 use Rattle.basis.specs.Outcome.{Outcome, done, refused}
 use Rattle.utf16.specs.Bytes.{points_of}
 use Rattle.firmware.specs.Answer.{read_outcome, read_text}
 use Rattle.report.specs.Lines.{points_line, refused_line}
 use Rattle.lines.specs.Run.{ended_in, held_in, last_line}
 use Rattle.streams.specs.Reading.{believed}
-use Rattle.streams.specs.declared.Ending.{Ending}
+use Rattle.streams.specs.declared.ReadFailed.{ReadFailed}
 
 -- the points of a text that was read, or the number of the refusal
 unfoldable pub line_for : Outcome → List ℕ → List ℕ
@@ -32,6 +32,6 @@ held_room = 64
 
 -- what the run prints over a row of chunks, after the bytes held: the lines that end in each, and when reading ends what is
 -- believed of the last line
-unfoldable pub printed : Ending → List ℕ → List (List ℕ) → List ℕ
+unfoldable pub printed : Result (Unit {0}) ReadFailed → List ℕ → List (List ℕ) → List ℕ
 printed ending held [] = bench_lines (last_line (believed ending held))
 printed ending held (chunk ∷ chunks) = bench_lines (ended_in held_room held chunk) ++ printed ending (held_in held_room held chunk) chunks

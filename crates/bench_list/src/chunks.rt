@@ -6,26 +6,14 @@ ghost use Rattle.bench_list.specs.Answered.{Answered};
 ghost use Rattle.bench_list.specs.Turns.{TurnLeaves};
 
 use crate::answers;
-use lines::LineStep;
-use streams::{Ending, ReadAnswer};
+use std::ops::ControlFlow;
+use streams::ReadFailed;
 
 // How many bytes were written, and how many are held of the line that has not ended.
 #[derive(Drop)]
-struct Progress {
-    written: usize,
-    held: usize,
-}
-
-// What a turn did: so many bytes were read, so many bytes answer the lines that end in them, and so many are held of the
-// line that has not ended; or reading is over.
-#[derive(Drop)]
-pub(crate) enum Turn {
-    Lines {
-        got: usize,
-        written: usize,
-        held: usize,
-    },
-    Ended(Ending),
+pub(crate) struct Progress {
+    pub written: usize,
+    pub held: usize,
 }
 
 // Writes what is printed for the lines that end in the chunk, and holds what there is of the next.
@@ -37,21 +25,19 @@ fn answer_chunk(chunk: &[u8], line: &mut [u8], held: usize, out: &mut [u8]) -> P
     let mut kept = held;
     let mut at = 0;
     let mut from = 0;
+    // Kept as a `while`: each turn goes on at the index that `next_line` answers.
     while from < chunk.len() {
         let step = lines::next_line(chunk, from, line, kept);
-        match step {
-            LineStep::More { held: rest } => {
-                return Progress {
-                    written: at,
-                    held: rest,
-                };
-            }
-            LineStep::Ended { next, held: ended } => {
-                at += answers::answer_line(&line[..ended], &mut out[at..]);
-                kept = 0;
-                from = next;
-            }
-        }
+        let ended = step.held;
+        let Some(next) = step.next else {
+            return Progress {
+                written: at,
+                held: ended,
+            };
+        };
+        at += answers::answer_line(&line[..ended], &mut out[at..]);
+        kept = 0;
+        from = next;
     }
     Progress {
         written: at,
@@ -60,28 +46,22 @@ fn answer_chunk(chunk: &[u8], line: &mut [u8], held: usize, out: &mut [u8]) -> P
 }
 
 // Takes a read's answer: writes what is printed for the lines that end in the bytes that it put into the chunk, and holds what
-// there is of the next.
+// there is of the next; or breaks off with how reading ended.
 pub(crate) fn answer_read(
-    answer: ReadAnswer,
+    answer: Result<Option<usize>, ReadFailed>,
     chunk: &[u8],
     line: &mut [u8],
     held: usize,
     out: &mut [u8],
-) -> Turn
+) -> ControlFlow<Result<(), ReadFailed>, Progress>
     requires read_fits { ReadFits (length chunk.now) answer }
     requires held_in_bounds { held ≤ length line.old }
     requires chunk_in_bounds { line_room * length chunk.now ≤ length out.old }
     ensures { TurnLeaves answer held chunk.now line.old line.new out.old out.new result }
 {
     match answer {
-        ReadAnswer::Over(ending) => Turn::Ended(ending),
-        ReadAnswer::Got(n) => {
-            let progress = answer_chunk(&chunk[..n], line, held, out);
-            Turn::Lines {
-                got: n,
-                written: progress.written,
-                held: progress.held,
-            }
-        }
+        Err(failed) => ControlFlow::Break(Err(failed)),
+        Ok(None) => ControlFlow::Break(Ok(())),
+        Ok(Some(n)) => ControlFlow::Continue(answer_chunk(&chunk[..n], line, held, out)),
     }
 }

@@ -8,15 +8,15 @@ ghost use Rattle.std.specs.Prelude.{◌≡◌, ◌*◌, ◌≤◌, length};
 ghost use Rattle.report.specs.Answer.{line_room};
 ghost use Rattle.bench_list.specs.Listing.{held_room};
 
-use chunks::Turn;
 use std::io::{Read, Write};
-use streams::Ending;
+use std::ops::ControlFlow;
+use streams::ReadFailed;
 
 // Prints the answer to the bytes held of a line once reading is over.
 fn print_last<W: Write, E: Write>(
     output: &mut W,
     errors: &mut E,
-    ending: Ending,
+    ending: Result<(), ReadFailed>,
     held: &[u8],
     out: &mut [u8],
 )
@@ -42,20 +42,16 @@ fn run<R: Read, W: Write, E: Write>(
     let mut held = 0;
     for _ in 0..u64::MAX {
         let answer = streams::read(input, errors, chunk);
-        let turn = chunks::answer_read(answer, chunk, line, held, out);
-        match turn {
-            Turn::Ended(ending) => {
+        match chunks::answer_read(answer, chunk, line, held, out) {
+            ControlFlow::Break(ending) => {
                 return print_last(output, errors, ending, &line[..held], out);
             }
-            Turn::Lines {
-                got: _,
-                written,
-                held: kept,
-            } => {
+            ControlFlow::Continue(progress) => {
+                let written = progress.written;
                 if streams::print(output, errors, &out[..written]) < written {
                     return;
                 }
-                held = kept;
+                held = progress.held;
             }
         }
     }

@@ -3,7 +3,9 @@ ghost use Rattle.std.specs.Prelude.{◌≡◌, ◌++◌, ◌≤◌, length, drop
 ghost use Rattle.alphabet.specs.Alphabet.{brace};
 ghost use Rattle.copying.specs.Symbols.{capital, byte_of, bytes_of};
 
-// The byte that is written for a symbol.
+// The byte that is written for a symbol. As byte_of of altdude, which has another alphabet and small letters: one function would be
+// passed both, and be no plainer.
+#[tactic(auto, unfolding(copying::specs::Symbols::byte_of))]
 fn byte_of(symbol: u8) -> u8
     ensures { result ≡ byte_of brace capital symbol }
 {
@@ -19,10 +21,8 @@ pub(crate) fn put_bytes(symbols: &[u8], label: &mut [u8]) -> usize
     ensures value { result ≡ length symbols.now }
     ensures label_after { label.new ≡ bytes_of brace capital symbols.now ++ drop (length symbols.now) label.old }
 {
-    let mut i = 0;
-    while i < symbols.len() {
-        label[i] = byte_of(symbols[i]);
-        i += 1;
+    for (i, &symbol) in symbols.iter().enumerate() {
+        label[i] = byte_of(symbol);
     }
-    i
+    symbols.len()
 }

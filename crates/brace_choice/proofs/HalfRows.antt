@@ -1,46 +1,29 @@
--- The choice of a half-row, as the loops compute it.
+-- The choice of a half-row, as the chains compute it.
 use Prim.Native.Nat.{ℕ, ◌+◌, ◌-◌, ◌*◌, ◌/◌, ◌≤◌, ◌<◌}
-use mathlib.Core.Path.{◌≡◌, refl, sym, ap, ◌∙◌}
-use mathlib.Core.Bool.{true, false}
+use mathlib.Core.Path.{◌≡◌, refl, ap, ap₂, ◌∙◌}
+use mathlib.Core.Bool.{Bool, true, false, cond}
 use mathlib.Core.List.{List, [], ◌∷◌}
 use lib.Dec.{eqb, ltb}
-use lib.ListN.{length, drop, get_or, drop_of_length-le}
-use lib.Seq.{drop-cons}
+use lib.ListN.{length}
+use Rattle.std.specs.Prelude.{count_by}
+use Rattle.std.specs.List.{fold}
+use Rattle.std.proofs.lemmas.List.Sums.{sum_by-cons}
 use borrow.Author.Tests.{eq-eqb, ne_eqb, eqb-true, lt-ltb, le-ltb}
-use native.Mathlib.Numerals.{add-one}
 use native.Mathlib.Omega.{arith}
 use Rattle.basis.specs.Tests.{pick, both}
 use Rattle.basis.proofs.Tests.{cases}
 use Rattle.brace_format.specs.Style.{other_half}
 use Rattle.brace_choice.specs.Choice.{count_in, mixed_cost, is_better, best_of}
 
-pub in-yes : (h c : ℕ) → c / 128 ≡ h → 1 ≡ count_in h (c ∷ [])
+-- the codes of a half-row, counted by a test
+pub counted : (h : ℕ) (codes : List ℕ) → count_by (λ c. eqb (c / 128) h) codes ≡ count_in h codes
 unfolding count_in
-in-yes h c e = rw (eq-eqb (c / 128) h e)
-
-pub in-no : (h c : ℕ) → (c / 128 ≡ h → ⊥) → 0 ≡ count_in h (c ∷ [])
-unfolding count_in
-in-no h c n = rw (ne_eqb (c / 128) h n)
-
--- n codes of the half-row are counted, those from i on are left
-pub record Counting (h : ℕ) (codes : List ℕ) (n i : ℕ) : Type 0 where
-  pub total : count_in h codes ≡ n + count_in h (drop i codes)
-  pub most : n ≤ i
-  pub inside : i ≤ length codes
-
-pub counting-start : (h : ℕ) (codes : List ℕ) → Counting h codes 0 0
-counting-start h codes = record { total = omega arith; most = omega arith; inside = omega arith }
-
-module _ {h : ℕ} {codes : List ℕ} {n i : ℕ} (p : Counting h codes n i) where
-  pub counting-turn : i < length codes → (r : ℕ) → r ≡ count_in h (get_or codes i 0 ∷ []) → r ≤ 1 → Counting h codes (n + r) (i + 1)
-  unfolding count_in
-  counting-turn l r e b = record { total = p.total ∙ rw (drop-cons codes i 0 l, add-one) (omega (arith, e)); most = omega (arith, p.most); inside = omega arith }
-
-  pub counting-end : length codes ≤ i → (n ≡ count_in h codes) × (n ≤ length codes)
-  unfolding count_in
-  counting-end l =
-      let e : count_in h (drop i codes) ≡ 0 = rw drop_of_length-le in
-      (omega (arith, p.total), omega (arith, p.most, p.inside))
+counted h [] = refl
+counted h (c ∷ codes) = sum_by-cons (λ x. cond (eqb (x / 128) h) 1 0) c codes ∙ ap₂ ◌+◌ (once (eqb (c / 128) h)) (counted h codes)
+  where
+    once : (b : Bool) → ◌≡◌ {A = ℕ} (cond b 1 0) (pick b 1 0)
+    once true = refl
+    once false = refl
 
 -- no half-row is the other one
 other_differs : (h c : ℕ) → eqb (c / 128) h ≡ true → eqb (c / 128) (other_half h) ≡ false
@@ -79,18 +62,11 @@ module _ (codes : List ℕ) (g h x y : ℕ) (ex : x ≡ mixed_cost codes g) (ey 
   unfolding is_better both
   better-more l n = rw (← ex, ← ey, le-ltb x y l, ne_eqb x y n)
 
--- the best of those from i on is left
-pub record Choosing (codes : List ℕ) (first best i : ℕ) : Type 0 where
-  pub same : best_of codes first codes ≡ best_of codes best (drop i codes)
+-- what `is_better` needs
+pub ruleset better_rules = (better-fewer, better-equal, better-more)
 
-pub choosing-start : (codes : List ℕ) (first : ℕ) → Choosing codes first first 0
-choosing-start codes first = record { same = refl }
-
-module _ {codes : List ℕ} {first best i : ℕ} (p : Choosing codes first best i) where
-  pub choosing-turn : i < length codes → (r : ℕ) → r ≡ pick (is_better codes (get_or codes i 0 / 128) best) (get_or codes i 0 / 128) best → Choosing codes first r (i + 1)
-  unfolding best_of
-  choosing-turn l r e = record { same = p.same ∙ rw (drop-cons codes i 0 l, add-one, e) }
-
-  pub choosing-end : length codes ≤ i → best ≡ best_of codes first codes
-  unfolding best_of
-  choosing-end l = let e : best_of codes best (drop i codes) ≡ best = rw drop_of_length-le in sym (p.same ∙ e)
+-- the best, code by code
+pub chosen : (codes : List ℕ) (h : ℕ) (candidates : List ℕ) → fold (λ best c. pick (is_better codes (c / 128) best) (c / 128) best) h candidates ≡ best_of codes h candidates
+unfolding best_of
+chosen codes h [] = refl
+chosen codes h (c ∷ candidates) = chosen codes (pick (is_better codes (c / 128) h) (c / 128) h) candidates

@@ -5,17 +5,17 @@ use mathlib.Core.Bool.{Bool, true, false}
 use mathlib.Core.List.{List, [], ◌∷◌, ◌++◌}
 use lib.Dec.{eqb}
 use lib.ListN.{length, take, drop, get_or, drop_of_length-le}
-use lib.Seq.{sets, take_all, drop-cons}
-use borrow.Author.Tests.{eq-eqb, lt-ltb, le-ltb}
+use lib.Seq.{take_all, drop-cons}
+use borrow.Author.Tests.{eq-eqb}
 use native.Mathlib.Numerals.{add-one}
 use native.Mathlib.Omega.{arith}
 use Rattle.basis.specs.Tests.{both, every, every_in}
 use Rattle.basis.proofs.Tests.{cases}
-use Rattle.basis.proofs.Stores.{Storing, storing-all, storing-more, storing-none}
+use Rattle.basis.proofs.Stores.{Storing, Stored, storing-all, storing-piece, storing-none}
 use Rattle.ascii.specs.Ldh.{is_ldh}
 use Rattle.brace_format.specs.declared.style.Style.{Style}
-use Rattle.brace_format.specs.declared.style.Style.TheVariants.{HalfRow, Row, Mixed, NoRow}
-use Rattle.brace_choice.specs.Choice.{codes_of, mixed_cost, no_row_cost, is_better, best_of, mixed_or_no_row, style_for, style_of}
+use Rattle.brace_format.specs.declared.style.Style.TheVariants.{HalfRow, Row, NoRow}
+use Rattle.brace_choice.specs.Choice.{codes_of, is_better, best_of, mixed_or_no_row, style_for, style_of}
 
 -- a unit that is LDH is no code, any other is one
 pub code-skipped : (u : ℕ) (b : Bool) → b ≡ is_ldh u → b ≡ true → codes_of (u ∷ []) ≡ []
@@ -50,11 +50,10 @@ module _ {t old codes : List ℕ} {at i : ℕ} (p : Gathering t old codes at i) 
   split-code : i < length t → codes_of (drop i t) ≡ codes_of (get_or t i 0 ∷ []) ++ codes_of (drop (i + 1) t)
   split-code h = rw (drop-cons t i 0 h, add-one) (codes-append (get_or t i 0) (drop (suc i) t))
 
-  pub gathering-turn : i < length t → (at' : ℕ) (codes' : List ℕ)
-      → (at' ≡ at + length (codes_of (get_or t i 0 ∷ []))) × (codes' ≡ sets codes at (codes_of (get_or t i 0 ∷ []))) → Gathering t old codes' at' (i + 1)
-  gathering-turn h at' codes' q = record {
-    storing = storing-more _ _ _ _ _ p.storing (codes_of (get_or t i 0 ∷ [])) _ (split-code h) codes' at' q.1 q.0;
-    behind = omega (arith, q.0, codes-few (get_or t i 0), p.behind);
+  pub gathering-turn : i < length t → {at' : ℕ} {codes' : List ℕ} → Stored codes at (codes_of (get_or t i 0 ∷ [])) codes' at' → Gathering t old codes' at' (i + 1)
+  gathering-turn h q = record {
+    storing = storing-piece p.storing (split-code h) q;
+    behind = omega (arith, q.count, codes-few (get_or t i 0), p.behind);
     inside = omega arith;
   }
 
@@ -69,16 +68,6 @@ pub codes-no-more : (t : List ℕ) → length (codes_of t) ≤ length t
 unfolding codes_of
 codes-no-more [] = omega arith
 codes-no-more (u ∷ t) = let r = codes-no-more t in cases (is_ldh u) (λ e. rw e (omega arith)) (λ e. rw e (omega arith))
-
--- mixed or no-row style, by the costs as they are answered
-module _ (codes : List ℕ) (half m n : ℕ) (em : m ≡ mixed_cost codes half) (en : n ≡ no_row_cost codes) where
-  pub mixed-shorter : m < n → Mixed half ≡ mixed_or_no_row codes half
-  unfolding mixed_or_no_row
-  mixed-shorter h = rw (← em, ← en, lt-ltb m n h)
-
-  pub no-row-shorter : n ≤ m → NoRow ≡ mixed_or_no_row codes half
-  unfolding mixed_or_no_row
-  no-row-shorter h = rw (← em, ← en, le-ltb m n h)
 
 -- the first code is in its own half-row and row, and is no better than itself
 all_after : (test : ℕ → Bool) (c : ℕ) (codes : List ℕ) → test c ≡ true → every_in test (c ∷ codes) ≡ every_in test codes

@@ -1,15 +1,16 @@
 -- Bytes compared with symbols one by one, and the label of a text by the symbols that are written for it.
-use Prim.Native.Nat.{ℕ, ◌+◌, ◌-◌, ◌≤◌, ◌<◌}
-use mathlib.Core.Path.{◌≡◌, refl, sym, ap, ◌∙◌}
+use Prim.Native.Nat.{ℕ, zero, suc, ◌-◌, ◌≤◌, ◌<◌}
+use mathlib.Core.Path.{◌≡◌, refl, sym, ap}
 use mathlib.Core.Bool.{Bool, true, false}
 use mathlib.Core.List.{List, [], ◌∷◌}
 use lib.Dec.{eqb}
-use lib.ListN.{length, take, drop, get_or, length-drop, drop_of_length-le}
-use lib.Seq.{drop-cons}
+use lib.ListN.{length, take, drop, get_or, length-drop}
 use borrow.Author.Tests.{lt-ltb, le-ltb}
-use native.Mathlib.Numerals.{add-one}
 use native.Mathlib.Omega.{arith}
 use Rattle.basis.specs.Tests.{both}
+use Rattle.std.specs.Bool.{MatchBool}
+use Rattle.std.specs.List.{zip, AllWithin, HoldsAt}
+use Rattle.basis.proofs.Tests.{both_true, both_false}
 use Rattle.basis.specs.Outcome.{Outcome, done, refused, count_of, buffer_after}
 use Rattle.basis.proofs.Parts.{front-is, front_fits}
 use Rattle.alphabet.specs.Alphabet.{brace, value_of}
@@ -36,11 +37,6 @@ unfolding are_for
 none-for [] h = absurd (omega arith)
 none-for (b ∷ bytes) h = refl
 
--- the bytes before an index are read as the symbols before it: what is left decides
-pub record Compared (symbols bytes : List ℕ) (i : ℕ) : Type 0 where
-  pub long : length symbols ≡ length bytes
-  pub left : are_for brace symbols bytes ≡ are_for brace (drop i symbols) (drop i bytes)
-
 module _ (symbols bytes : List ℕ) where
   pub lengths_differ : (length symbols ≡ length bytes → ⊥) → false ≡ are_for brace symbols bytes
   lengths_differ d = falsified (are_for brace symbols bytes) (λ e. d (spelled-length brace symbols bytes e))
@@ -49,28 +45,32 @@ module _ (symbols bytes : List ℕ) where
       falsified true n = absurd (n refl)
       falsified false n = refl
 
-  pub compared-start : length symbols ≡ length bytes → Compared symbols bytes 0
-  compared-start e = record { long = e; left = refl }
+-- symbols and bytes in pairs: every byte is read as its symbol, or one is not
+paired-for : ℕ × ℕ → Bool
+paired-for p = is_for brace p.0 p.1
 
-  module _ (i : ℕ) (p : Compared symbols bytes i) where
-    pub compared-end : length symbols ≤ i → true ≡ are_for brace symbols bytes
-    unfolding are_for
-    compared-end h = let g : length bytes ≤ i = omega (arith, p.long) in
-        sym (p.left ∙ rw (drop_of_length-le symbols h, drop_of_length-le bytes g))
+all-for : (symbols bytes : List ℕ) → length symbols ≡ length bytes
+    → ((k : ℕ) → k < length (zip symbols bytes) → paired-for (get_or (zip symbols bytes) k (0, 0)) ≡ true) → are_for brace symbols bytes ≡ true
+unfolding are_for paired-for
+all-for [] [] e h = refl
+all-for [] (b ∷ bytes) e h = absurd (omega arith)
+all-for (s ∷ symbols) [] e h = absurd (omega arith)
+all-for (s ∷ symbols) (b ∷ bytes) e h = both_true (h 0 (omega arith)) (all-for symbols bytes (omega arith) (λ k l. h (suc k) (omega arith)))
 
-    module _ (inside : i < length symbols) (r : Bool) (is : r ≡ is_for brace (get_or symbols i 0) (get_or bytes i 0)) where
-      next : are_for brace symbols bytes ≡ both r (are_for brace (drop (i + 1) symbols) (drop (i + 1) bytes))
-      unfolding are_for
-      next = let g : i < length bytes = omega (arith, p.long) in
-          p.left ∙ rw (drop-cons symbols i 0 inside, drop-cons bytes i 0 g, add-one, is)
+one-not-for : (symbols bytes : List ℕ) (k : ℕ) → k < length (zip symbols bytes) → paired-for (get_or (zip symbols bytes) k (0, 0)) ≡ false → are_for brace symbols bytes ≡ false
+unfolding are_for paired-for both
+one-not-for [] bytes k h e = absurd (omega arith)
+one-not-for (s ∷ symbols) [] k h e = absurd (omega arith)
+one-not-for (s ∷ symbols) (b ∷ bytes) zero h e = rw e
+one-not-for (s ∷ symbols) (b ∷ bytes) (suc k) h e = rw (one-not-for symbols bytes k (omega arith) e) (both_false (is_for brace s b))
 
-      pub compared-turn : r ≡ true → Compared symbols bytes (i + 1)
-      unfolding both
-      compared-turn e = record { long = p.long; left = next ∙ rw e }
-
-      pub compared-stop : r ≡ false → false ≡ are_for brace symbols bytes
-      unfolding both
-      compared-stop e = sym (next ∙ rw e)
+pub pairs-for : (symbols bytes : List ℕ) → length symbols ≡ length bytes → (r : Bool)
+    → MatchBool r (AllWithin (λ p. is_for brace p.0 p.1 ≡ true) (zip symbols bytes) 0 (length (zip symbols bytes)))
+    ((k : ℕ) × (k < length (zip symbols bytes)) × HoldsAt (λ p. is_for brace p.0 p.1 ≡ false) (zip symbols bytes) k)
+    → r ≡ are_for brace symbols bytes
+unfolding paired-for
+pairs-for symbols bytes e true p = sym (all-for symbols bytes e (λ k h. p k (0, 0) (omega arith) h))
+pairs-for symbols bytes e false p = sym (one-not-for symbols bytes p.0 p.1 (p.2 (0, 0)))
 
 -- a label that ends with the signature has four bytes at least
 pub signed-long : (l : List ℕ) → is_signed l ≡ true → 4 ≤ length l

@@ -41,7 +41,7 @@ all-ldh l bad e h =
     (none-iff (length l) (λ i. is_ldh (at l i))).0 k
 
 -- 63 units are room for what is before the signature
-pub body-room : (l : List ℕ) → length l ≤ 63 → length (take (length l - 4) l) ≤ 63
+body-room : (l : List ℕ) → length l ≤ 63 → length (take (length l - 4) l) ≤ 63
 body-room l h = omega (arith, length-take-le (length l - 4) l (omega arith))
 
 -- the text of a body is read, given the room
@@ -51,11 +51,11 @@ module _ (capacity : ℕ) (body old now : List ℕ) (given : Outcome)
   unfolding body_outcome
   reads = pass_below 1 0 _ capacity (length body) room
 
-  pub body-done : (n : ℕ) → given ≡ done n → (n ≡ length (body_text body)) × (now ≡ body_text body ++ drop (length (body_text body)) old)
+  body-done : (n : ℕ) → given ≡ done n → (n ≡ length (body_text body)) × (now ≡ body_text body ++ drop (length (body_text body)) old)
   unfolding buffer_after
   body-done n e = (done-count (sym is.0 ∙ e) reads, is.1 ∙ rw reads)
 
-  pub body-never : (number position : ℕ) → given ≡ refused number position → ⊥
+  body-never : (number position : ℕ) → given ≡ refused number position → ⊥
   body-never number position e = done-not-refused reads (sym is.0 ∙ e)
 
 -- the text of a label with the signature, as it was read to the front of a buffer
@@ -64,16 +64,20 @@ module _ (l : List ℕ) (signed : is_signed l ≡ true) where
   unfolding text_of
   signed-text = rw signed
 
-  module _ (n : ℕ) (text rest : List ℕ)
-      (is : (n ≡ length (body_text (take (length l - 4) l))) × (text ≡ body_text (take (length l - 4) l) ++ rest)) where
-    pub text-fits : n ≤ length text
-    text-fits = front_fits n (body_text (take (length l - 4) l)) rest text is.0 is.1
+  -- given the room
+  module _ (short : length l ≤ 63) (capacity : ℕ) (room : 63 ≤ capacity) (old now : List ℕ) (given : Outcome)
+      (is : (given ≡ body_outcome capacity (take (length l - 4) l)) × (now ≡ buffer_after (body_outcome capacity (take (length l - 4) l)) (body_text (take (length l - 4) l)) old)) where
+    fitting : length (take (length l - 4) l) ≤ capacity
+    fitting = omega (arith, body-room l short)
 
-    pub text-is : take n text ≡ text_of l
-    text-is = front-is n (body_text (take (length l - 4) l)) rest text is.0 is.1 ∙ sym signed-text
+    pub read-never : (number position : ℕ) → given ≡ refused number position → ⊥
+    read-never = body-never capacity _ old now given is fitting
 
-    pub text-count : n ≡ length (text_of l)
-    text-count = is.0 ∙ ap length (sym signed-text)
+    pub text-read : (n : ℕ) → given ≡ done n → (n ≤ length now) × (take n now ≡ text_of l) × (n ≡ length (text_of l))
+    text-read n e =
+        let b = body-done capacity _ old now given is fitting n e in
+        let text = body_text (take (length l - 4) l) in
+        (front_fits n text _ now b.0 b.1, front-is n text _ now b.0 b.1 ∙ sym signed-text, b.0 ∙ ap length (sym signed-text))
 
 -- a text that was copied to the front of a buffer
 pub copied-text : (t row buffer now : List ℕ) (n : ℕ) → row ≡ t → n ≡ length t → now ≡ row ++ drop (length row) buffer → now ≡ t ++ drop n buffer

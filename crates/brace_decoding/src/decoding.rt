@@ -11,8 +11,8 @@ ghost use Rattle.brace_text.specs.Decoding.{text_of};
 ghost use Rattle.brace_symbols.specs.Answer.{encode_outcome};
 ghost use Rattle.brace_decoding.specs.Answer.{is_done, first_not_ldh, decode_outcome};
 
-use basis::ErrorCode;
-use utf16::{UnitCount, UnitsAnswer};
+use basis::{ErrorCode, Refusal};
+use utf16::UnitCount;
 
 // Whether a byte is read as a symbol: a coded one in either case, a copied one byte for byte.
 fn is_for(symbol: u8, byte: u8) -> bool
@@ -31,14 +31,10 @@ fn are_for(symbols: &[u8], bytes: &[u8]) -> bool
     if symbols.len() != bytes.len() {
         return false;
     }
-    let mut i = 0;
-    while i < symbols.len() {
-        if !is_for(symbols[i], bytes[i]) {
-            return false;
-        }
-        i += 1;
-    }
-    true
+    symbols
+        .iter()
+        .zip(bytes)
+        .all(|(&symbol, &byte)| is_for(symbol, byte))
 }
 
 // Whether the units may be written, and the label is theirs. If they may not, no symbol is written, and a label of one byte or more
@@ -47,33 +43,21 @@ fn has_label(units: &[u16], label: &[u8]) -> bool
     requires { 0 < length label.now }
     ensures { result ≡ both (is_done (encode_outcome 63 units.now)) (are_for brace (symbols_of units.now) label.now) }
 {
+    // Fixed memory, so a buffer for the most symbols there can be, and their count.
     let mut symbols = [0u8; 63];
     let answer = brace_symbols::put_symbols(units, &mut symbols);
     let count = basis::bytes_written(answer);
     are_for(&symbols[..count], label)
 }
 
-// Copies units to the front of a buffer.
-fn copy_units(row: &[u16], units: &mut [u16])
-    requires { length row.now ≤ length units.old }
-    ensures { units.new ≡ row.now ++ drop (length row.now) units.old }
-{
-    let mut i = 0;
-    while i < row.len() {
-        units[i] = row[i];
-        i += 1;
-    }
-}
-
-// Copies bytes to the front of a buffer of units.
+// Copies bytes to the front of a buffer of units. As put_plain of brace_symbols from units to bytes: one function would be passed how
+// an element converts, and be no plainer.
 fn copy_bytes(label: &[u8], units: &mut [u16])
     requires { length label.now ≤ length units.old }
     ensures { units.new ≡ label.now ++ drop (length label.now) units.old }
 {
-    let mut i = 0;
-    while i < label.len() {
-        units[i] = label[i] as u16;
-        i += 1;
+    for (i, &byte) in label.iter().enumerate() {
+        units[i] = byte as u16;
     }
 }
 
@@ -81,44 +65,32 @@ fn copy_bytes(label: &[u8], units: &mut [u16])
 fn first_not_ldh(label: &[u8]) -> usize
     ensures { result ≡ first_not_ldh label.now }
 {
-    let mut i = 0;
-    while i < label.len() {
-        if !ascii::is_ldh(label[i] as u32) {
-            return i;
-        }
-        i += 1;
-    }
-    i
+    label
+        .iter()
+        .position(|&byte| !ascii::is_ldh(byte as u32))
+        .unwrap_or(label.len())
 }
 
 // Reads a label of 1 to 63 bytes that ends with the signature.
-pub(crate) fn decode_signed(label: &[u8], units: &mut [u16]) -> UnitsAnswer
+pub(crate) fn decode_signed(label: &[u8], units: &mut [u16]) -> Result<UnitCount, Refusal>
     requires in_bounds { (63 ≤ length units.old) × (0 < length label.now) × (length label.now ≤ 63) }
     requires label_value { is_signed label.now ≡ true }
     ensures result_value { units_outcome result ≡ decode_outcome (length units.old) label.now }
     ensures units_after { units.new ≡ buffer_after (decode_outcome (length units.old) label.now) (text_of label.now) units.old }
 {
+    // Fixed memory, so a buffer for the most units there can be, and their count.
     let mut text = [0u16; 63];
-    let answer = brace_text::read_body(&label[..label.len() - 4], &mut text);
-    match answer {
-        UnitsAnswer::Error { code, position } => UnitsAnswer::Error { code, position },
-        UnitsAnswer::Units(count) => {
-            let n = count.0;
-            let row = &text[..n];
-            if !has_label(row, label) {
-                return UnitsAnswer::Error {
-                    code: ErrorCode::NotWellFormed,
-                    position: 0,
-                };
-            }
-            copy_units(row, units);
-            UnitsAnswer::Units(UnitCount(n))
-        }
+    let count = brace_text::read_body(&label[..label.len() - 4], &mut text)?;
+    let row = &text[..count.0];
+    if !has_label(row, label) {
+        return Err(ErrorCode::NotWellFormed.at(0));
     }
+    units[..count.0].copy_from_slice(row);
+    Ok(count)
 }
 
 // Reads a label of 1 to 63 bytes without the signature: a host label, which is its own text.
-pub(crate) fn decode_plain(label: &[u8], units: &mut [u16]) -> UnitsAnswer
+pub(crate) fn decode_plain(label: &[u8], units: &mut [u16]) -> Result<UnitCount, Refusal>
     requires in_bounds { (63 ≤ length units.old) × (0 < length label.now) × (length label.now ≤ 63) }
     requires label_value { is_signed label.now ≡ false }
     ensures result_value { units_outcome result ≡ decode_outcome (length units.old) label.now }
@@ -127,17 +99,11 @@ pub(crate) fn decode_plain(label: &[u8], units: &mut [u16]) -> UnitsAnswer
     let bad = first_not_ldh(label);
     let edge_hyphen = ascii::label_has_edge_hyphen(label);
     if bad < label.len() {
-        return UnitsAnswer::Error {
-            code: ErrorCode::OutsideAlphabet,
-            position: bad,
-        };
+        return Err(ErrorCode::OutsideAlphabet.at(bad));
     }
     if edge_hyphen {
-        return UnitsAnswer::Error {
-            code: ErrorCode::EdgeHyphen,
-            position: 0,
-        };
+        return Err(ErrorCode::EdgeHyphen.at(0));
     }
     copy_bytes(label, units);
-    UnitsAnswer::Units(UnitCount(label.len()))
+    Ok(UnitCount(label.len()))
 }

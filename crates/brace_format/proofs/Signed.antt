@@ -2,12 +2,14 @@
 use Prim.Native.Nat.{ℕ, suc, ◌-◌, ◌≤◌, ◌<◌}
 use mathlib.Core.Path.{◌≡◌, refl, sym, ap, ◌∙◌}
 use mathlib.Core.Bool.{Bool, true, false}
-use mathlib.Core.List.{List, [], ◌∷◌}
+use mathlib.Core.List.{List, [], ◌∷◌, map}
 use lib.Dec.{eqb, ltb}
-use lib.ListN.{length, drop, get_or, length-drop, drop_of_length-le}
+use lib.ListN.{length, drop, get_or, length-drop, length-map, drop_of_length-le}
 use lib.Seq.{drop-cons}
 use borrow.Author.Tests.{eq-eqb, ne_eqb, ltb-true}
 use native.Mathlib.Omega.{arith}
+use Rattle.std.specs.List.{slice_index_or}
+use Rattle.std.proofs.lemmas.List.{get_or-map}
 use Rattle.basis.specs.Tests.{both, every}
 use Rattle.basis.specs.Rows.{at}
 use Rattle.basis.proofs.Tests.{both_false, at_each, first-none}
@@ -37,7 +39,7 @@ unequal alphabet (s ∷ symbols) [] n = refl
 unequal alphabet (s ∷ symbols) (b ∷ bytes) n = rw (unequal alphabet symbols bytes (λ e. n (ap suc e))) (both_false _)
 
 -- fewer than four are not signed
-pub signed-short : (row : List ℕ) → length row < 4 → false ≡ is_signed row
+signed-short : (row : List ℕ) → length row < 4 → false ≡ is_signed row
 unfolding is_signed signature
 signed-short row h = sym (unequal brace (45 ∷ 6 ∷ 22 ∷ 7 ∷ []) (drop (length row - 4) row) (λ e. omega (arith, length-drop (length row - 4) row)))
 
@@ -52,9 +54,31 @@ module _ (row : List ℕ) (h : 4 ≤ length row) where
       let z : drop (length row) row ≡ [] = drop_of_length-le row {i = length row} (omega arith) in
       rw (drop-cons row (length row - 4) 0 (omega arith), a, drop-cons row (length row - 3) 0 (omega arith), b, drop-cons row (length row - 2) 0 (omega arith), c, drop-cons row (length row - 1) 0 (omega arith), d, z)
 
-  pub signed-four : (r : Bool) → r ≡ are_for brace signature (get_or row (length row - 4) 0 ∷ get_or row (length row - 3) 0 ∷ get_or row (length row - 2) 0 ∷ get_or row (length row - 1) 0 ∷ []) → r ≡ is_signed row
+  signed-four : (r : Bool) → r ≡ are_for brace signature (get_or row (length row - 4) 0 ∷ get_or row (length row - 3) 0 ∷ get_or row (length row - 2) 0 ∷ get_or row (length row - 1) 0 ∷ []) → r ≡ is_signed row
   unfolding is_signed
   signed-four r e = e ∙ ap (are_for brace signature) (sym last-four)
+
+-- the numbers of a row's elements
+module _ {A : Type 0} (number : A → ℕ) (row : List A) where
+  pub signed-few : length row < 4 → false ≡ is_signed (map number row)
+  signed-few h = signed-short (map number row) (rw length-map h)
+
+  -- a is the number of the element at an index
+  number_at : (i : ℕ) (x : A) (a : ℕ) → i < length row → x ≡ slice_index_or row i x → a ≡ number x → a ≡ get_or (map number row) i 0
+  number_at i x a h e q = q ∙ ap number e ∙ sym (get_or-map number row i x 0 h)
+
+  pub signed-last : 4 ≤ length row → (r : Bool) (w x y z : A) (a b c d : ℕ)
+      → w ≡ slice_index_or row (length row - 4) w → a ≡ number w
+      → x ≡ slice_index_or row (length row - 3) x → b ≡ number x
+      → y ≡ slice_index_or row (length row - 2) y → c ≡ number y
+      → z ≡ slice_index_or row (length row - 1) z → d ≡ number z
+      → r ≡ are_for brace signature (a ∷ b ∷ c ∷ d ∷ []) → r ≡ is_signed (map number row)
+  signed-last h r w x y z a b c d iw nw ix nx iy ny iz nz e =
+      let ea : a ≡ get_or (map number row) (length row - 4) 0 = number_at _ w a (omega arith) iw nw in
+      let eb : b ≡ get_or (map number row) (length row - 3) 0 = number_at _ x b (omega arith) ix nx in
+      let ec : c ≡ get_or (map number row) (length row - 2) 0 = number_at _ y c (omega arith) iy ny in
+      let ed : d ≡ get_or (map number row) (length row - 1) 0 = number_at _ z d (omega arith) iz nz in
+      signed-four (map number row) (rw length-map h) r (rw (length-map, ← ea, ← eb, ← ec, ← ed) e)
 
 pub both-same : (b : Bool) → both b true ≡ b
 unfolding both
@@ -87,3 +111,6 @@ module _ (a b c d : ℕ) where
 
 -- what `is_signature` needs
 pub ruleset signature_rules = (no-hyphen, second-differs, third-differs, fourth-decides)
+
+-- what `value_of` needs
+pub ruleset value_rules = (value-beyond)

@@ -23,6 +23,7 @@ pub fn other_half(half: u16) -> u16
 }
 
 // How many bits there are before the codes.
+#[tactic(auto, unfolding(crate::specs::Style::head_width))]
 pub fn head_width(style: Style) -> u32
     ensures value { result ≡ head_width style }
     ensures upper_bound { result ≤ 11 }
@@ -36,6 +37,7 @@ pub fn head_width(style: Style) -> u32
 }
 
 // The value of the bits before the codes.
+#[tactic(auto, unfolding(crate::specs::Style::head_value))]
 pub fn head_value(style: Style) -> u32
     ensures value { result ≡ head_value style }
     ensures upper_bound { result < 262144 }
@@ -49,6 +51,7 @@ pub fn head_value(style: Style) -> u32
 }
 
 // How many bits the code of a unit has in mixed style.
+#[tactic(auto, unfolding(crate::specs::Style::width_of))]
 fn mixed_width(half: u16, unit: u16) -> u32
     ensures { result ≡ width_of (Style.Mixed half) unit }
 {
@@ -62,6 +65,7 @@ fn mixed_width(half: u16, unit: u16) -> u32
 }
 
 // How many bits the code of a unit has.
+#[tactic(auto, unfolding(crate::specs::Style::width_of))]
 pub fn width(style: Style, unit: u16) -> u32
     ensures { result ≡ width_of style unit }
 {
@@ -74,6 +78,7 @@ pub fn width(style: Style, unit: u16) -> u32
 }
 
 // The value of the code of a unit in mixed style.
+#[tactic(auto, unfolding(crate::specs::Style::code_of))]
 fn mixed_code(half: u16, unit: u16) -> u32
     ensures value { result ≡ code_of (Style.Mixed half) unit }
     ensures upper_bound { result < 262144 }
@@ -88,6 +93,7 @@ fn mixed_code(half: u16, unit: u16) -> u32
 }
 
 // The value of the code of a unit.
+#[tactic(auto, unfolding(crate::specs::Style::code_of))]
 pub fn code(style: Style, unit: u16) -> u32
     ensures value { result ≡ code_of style unit }
     ensures upper_bound { result < 262144 }

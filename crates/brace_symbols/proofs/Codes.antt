@@ -2,11 +2,11 @@
 use Prim.Native.Nat.{ℕ, zero, suc, ◌+◌, ◌-◌, ◌*◌, ◌/◌, ◌%◌, ◌^◌, ◌≤◌, ◌<◌}
 use mathlib.Core.Path.{◌≡◌, refl, sym, ap, ◌∙◌}
 use mathlib.Core.Bool.{Bool, true, false, not}
-use mathlib.Core.List.{List, []}
+use mathlib.Core.List.{List, [], ◌∷◌, ◌++◌}
 use lib.Dec.{eqb}
-use lib.ListN.{length, drop, set, get_or, drop_of_length-le}
+use lib.ListN.{length, drop, get_or, drop_of_length-le}
 use lib.Pow.{pow_mono}
-use lib.Seq.{sets, drop-cons}
+use lib.Seq.{drop-cons}
 use borrow.Author.Tests.{not-true, not-false}
 use native.Mathlib.Nat.{mod-eq_of_lt, mul-le-mul, one-mul}
 use native.Mathlib.Numerals.{add-one}
@@ -62,42 +62,37 @@ module _ (s : Style) (k i : ℕ) (t : List ℕ) where
   unfolding ahead
   ahead-end h = rw drop_of_length-le
 
--- a walk from an index on that has come to i, over LDH only
-pub record Walked (s : Style) (k : ℕ) (t : List ℕ) (from i : ℕ) : Type 0 where
-  pub same : ahead s k (drop from t) ≡ ahead s k (drop i t)
+-- a walk that has come to i, over LDH only
+pub record Walked (s : Style) (k : ℕ) (t : List ℕ) (i : ℕ) : Type 0 where
+  pub same : ahead s k t ≡ ahead s k (drop i t)
 
-module _ {s : Style} {k from i : ℕ} {t : List ℕ} (inv : Walked s k t from i) where
+module _ {s : Style} {k i : ℕ} {t : List ℕ} (inv : Walked s k t i) where
   pub found-code : i < length t → (b : Bool) → b ≡ is_ldh (get_or t i 0) → not b ≡ true → (w c : ℕ) → w ≡ width_of s (get_or t i 0) → c ≡ code_of s (get_or t i 0)
-      → c / 2 ^ (w - k) ≡ ahead s k (drop from t)
+      → c / 2 ^ (w - k) ≡ ahead s k t
   found-code h b eb n w c ew ec = sym (inv.same ∙ ahead-code s k i t h (sym eb ∙ not-true b n) ∙ rw (ew, ec))
 
-  pub passed-ldh : i < length t → (b : Bool) → b ≡ is_ldh (get_or t i 0) → not b ≡ false → Walked s k t from (i + 1)
+  pub passed-ldh : i < length t → (b : Bool) → b ≡ is_ldh (get_or t i 0) → not b ≡ false → Walked s k t (i + 1)
   passed-ldh h b eb y = record { same = inv.same ∙ ahead-ldh s k i t h (sym eb ∙ not-false b y) }
 
-  pub found_none : length t ≤ i → 0 ≡ ahead s k (drop from t)
+  pub found_none : length t ≤ i → 0 ≡ ahead s k t
   found_none h = sym (inv.same ∙ ahead-end s k i t h)
 
--- one quintet stored, and none
-pub put_one : (n x at r : ℕ) (symbols : List ℕ) → 0 < n → r ≡ x / 2 ^ (5 * (n - 1)) % 32
-    → sets (set symbols at r) (at + 1) (quintets (n - 1) x []) ≡ sets symbols at (quintets n x [])
+-- the first of so many quintets, before the others; and none
+pub next-quintet : (n x r : ℕ) → 0 < n → r ≡ x / 2 ^ (5 * (n - 1)) % 32 → quintets n x [] ≡ (r ∷ []) ++ quintets (n - 1) x []
 unfolding quintets
-put_one zero x at r symbols h e = absurd (omega arith)
-put_one (suc n) x at r symbols h e =
+next-quintet zero x r h e = absurd (omega arith)
+next-quintet (suc n) x r h e =
     let q : suc n - 1 ≡ n = omega arith in
-    rw (e, q, add-one)
+    rw (e, q)
 
-pub put-none : (x at : ℕ) (symbols : List ℕ) (n : ℕ) → n ≤ 0 → sets symbols at (quintets n x []) ≡ symbols
+pub no-quintets : (x n : ℕ) → n ≤ 0 → quintets n x [] ≡ []
 unfolding quintets
-put-none x at symbols zero h = refl
-put-none x at symbols (suc n) h = absurd (omega arith)
+no-quintets x zero h = refl
+no-quintets x (suc n) h = absurd (omega arith)
 
-module _ (k w sp : ℕ) (few : k ≤ 4) (le : k ≤ w) (is : sp ≡ spare_count k w) where
-  pub spare-le : sp ≤ 4
-  unfolding spare_count quintet_count
-  spare-le = omega arith
-
+module _ (k w sp : ℕ) (few : sp ≤ 4) (is : sp ≡ spare_count k w) where
   power_le : 2 ^ sp ≤ 16
-  power_le = pow_mono spare-le
+  power_le = pow_mono few
 
   shift_is : 1 * 2 ^ sp % 4294967296 ≡ 2 ^ sp
   shift_is = ap (λ (x : ℕ). x % 4294967296) (one-mul (2 ^ sp)) ∙ mod-eq_of_lt (omega (arith, power_le))
@@ -105,14 +100,8 @@ module _ (k w sp : ℕ) (few : k ≤ 4) (le : k ≤ w) (is : sp ≡ spare_count 
   pub shifted-le : (c : ℕ) → c < 262144 → c * (1 * 2 ^ sp % 4294967296) ≤ 262144 * 16
   shifted-le c h = let l : c ≤ 262144 = omega arith in rw shift_is (mul-le-mul l power_le)
 
-  pub quintets-few : w ≤ 18 → (n : ℕ) → n ≡ quintet_count k w → n ≤ 4
-  unfolding quintet_count
-  quintets-few h n e = omega arith
-
-  -- the quintets of a code, as they are stored
-  pub code_put : (s : Style) (c a n : ℕ) (rest : List ℕ) → n ≡ quintet_count k w → a ≡ ahead s sp rest
-      → (symbols symbols' : List ℕ) (at r : ℕ) → (r ≡ at + n) × (symbols' ≡ sets symbols at (quintets n (c * (1 * 2 ^ sp % 4294967296) + a) []))
-      → (r ≡ at + quintet_count k w) × (symbols' ≡ sets symbols at (code_quintets s k w c rest []))
+  -- the quintets of a code, by the numbers as they are answered
+  pub code_is : (s : Style) (c a n : ℕ) (rest : List ℕ) → n ≡ quintet_count k w → a ≡ ahead s sp rest
+      → code_quintets s k w c rest [] ≡ quintets n (c * (1 * 2 ^ sp % 4294967296) + a) []
   unfolding code_quintets
-  code_put s c a n rest en ea symbols symbols' at r p =
-      (p.0 ∙ ap (λ (i : ℕ). at + i) en, p.1 ∙ rw (shift_is, ea, is, en))
+  code_is s c a n rest en ea = rw (shift_is, ea, is, en)

@@ -2,18 +2,17 @@
 use Prim.Native.Nat.{ℕ, ◌+◌, ◌≤◌, ◌<◌}
 use mathlib.Core.Path.{◌≡◌, refl, sym, ap, ◌∙◌}
 use mathlib.Core.Bool.{Bool, true, false, ◌||◌}
-use mathlib.Core.List.{List, [], ◌++◌, append-nil, append_assoc}
+use mathlib.Core.List.{List, [], ◌++◌}
 use lib.Dec.{ltb}
-use lib.ListN.{length, take, drop, set, get_or, length-map, drop_of_length-le}
-use lib.Seq.{sets, length-sets, take_all, drop-cons}
+use lib.ListN.{length, take, drop, get_or, length-map}
+use lib.Seq.{take_all}
 use borrow.Author.Tests.{lt-ltb, le-ltb, ltb-false}
-use native.Mathlib.Numerals.{add-one}
 use native.Mathlib.Omega.{arith}
 use Rattle.basis.specs.Outcome.{Outcome, done, refused, refused_if, buffer_after}
 use Rattle.basis.proofs.Tests.{at_each, true-not-false}
 use Rattle.basis.proofs.Lists.{at_map}
 use Rattle.basis.proofs.Outcome.{stop-if, pass-if, stop-below, pass_below, stop-equal, pass-equal, stop-found, pass-found, passed, done-count, done-leaves, values-fit, values-long, values-are}
-use Rattle.basis.proofs.Stores.{Storing, storing-all, storing-more, storing-piece, storing-none, stored_one}
+use Rattle.basis.proofs.Stores.{Stored, stored-append, storing-none}
 use Rattle.utf16.specs.Units.{first_unpaired}
 use Rattle.ascii.specs.Ldh.{is_ldh, is_all_ldh}
 use Rattle.alphabet.specs.Alphabet.{brace}
@@ -26,14 +25,6 @@ use Rattle.brace_symbols.specs.Encoding.{quintet_count, spare_count, code_quinte
 use Rattle.brace_symbols.specs.Answer.{is_too_long, encode_outcome}
 use Rattle.brace_symbols.proofs.Units.{ldh-byte, length-code, body_is, length-signed}
 use Rattle.brace_symbols.proofs.Edges.{label-edges}
-
--- a row that is stored one by one from the front
-module _ {row old now : List ℕ} {i : ℕ} (s : Storing old row now i (drop i row)) where
-  pub row-turn : i < length row → (v : ℕ) → v ≡ get_or row i 0 → Storing old row (set now i v) (i + 1) (drop (i + 1) row)
-  row-turn h v e = rw e (storing-piece s (rw add-one (drop-cons row i 0 h)) (stored_one now i (get_or row i 0)))
-
-  pub row-end : length row ≤ i → length row ≤ length old → (i ≡ length row) × (now ≡ row ++ drop (length row) old)
-  row-end h g = storing-none old row now i (drop i row) s (drop_of_length-le row h) g
 
 -- the bytes of symbols one by one
 pub length-bytes : (symbols : List ℕ) → length (bytes_of brace capital symbols) ≡ length symbols
@@ -50,38 +41,27 @@ unfolding is_all_ldh
 all-ldh-byte t i e h = ldh-byte (get_or t i 0) (at_each (length t) (λ k. is_ldh (get_or t k 0)) e i h)
 
 -- the head, the units and the signature, one after another
-module _ (s : Style) (t old : List ℕ) (w v sp : ℕ) (ew : w ≡ head_width s) (ev : v ≡ head_value s) (es : sp ≡ spare_count 0 w) (fits : length (body_of s t ++ signature) ≤ length old) where
+module _ (s : Style) (t old : List ℕ) (w v : ℕ) (ew : w ≡ head_width s) (ev : v ≡ head_value s) (fits : length (body_of s t ++ signature) ≤ length old) where
+  total : length (body_of s t ++ signature) ≡ 4 + quintet_count 0 w + length (symbols_from s false (spare_count 0 (head_width s)) t)
+  total = length-signed s t ∙ rw (← ew)
+
   pub head-fits : 0 + quintet_count 0 w ≤ length old
-  head-fits = omega (arith, length-signed s t, ap (quintet_count 0) ew)
+  head-fits = omega (arith, total)
 
-  spare-is : spare_count 0 (head_width s) ≡ sp
-  spare-is = ap (spare_count 0) (sym ew) ∙ sym es
+  module _ {first : List ℕ} {head : ℕ} (a : Stored old 0 (code_quintets s 0 w v t []) first head) where
+    pub units-fit : head + length (symbols_from s false (spare_count 0 (head_width s)) t) ≤ length first
+    units-fit = omega (arith, total, a.count, a.long, length-code s 0 w v t)
 
-  total : length (body_of s t ++ signature) ≡ 4 + quintet_count 0 w + length (symbols_from s false sp t)
-  total = length-signed s t ∙ rw (ew, spare-is)
+    module _ {second : List ℕ} {body : ℕ} (b : Stored first head (symbols_from s false (spare_count 0 (head_width s)) t) second body) where
+      pub signature-fits : body + 4 ≤ length second
+      signature-fits = omega (arith, total, a.count, a.long, b.count, b.long, length-code s 0 w v t)
 
-  module _ (head : ℕ) (eh : head ≡ 0 + quintet_count 0 w) where
-    pub units-fit : (first : List ℕ) → first ≡ sets old 0 (code_quintets s 0 w v t []) → head + length (symbols_from s false sp t) ≤ length first
-    units-fit first e = omega (arith, total, ap length e ∙ length-sets old 0 (code_quintets s 0 w v t []))
-
-    module _ (body : ℕ) (eb : body ≡ head + length (symbols_from s false sp t)) where
-      pub signature-fits : (first second : List ℕ) → first ≡ sets old 0 (code_quintets s 0 w v t []) → second ≡ sets first head (symbols_from s false sp t) → body + 4 ≤ length second
-      signature-fits first second e1 e2 =
-          omega (arith, total, ap length e1 ∙ length-sets old 0 (code_quintets s 0 w v t []), ap length e2 ∙ length-sets first head (symbols_from s false sp t))
-
-      pub signed-put : (first second last : List ℕ) (r : ℕ) → first ≡ sets old 0 (code_quintets s 0 w v t []) → second ≡ sets first head (symbols_from s false sp t)
-          → (r ≡ body + 4) × (last ≡ sets second body signature)
+      pub signed-put : {last : List ℕ} {r : ℕ} → Stored second body signature last r
           → (r ≡ length (body_of s t ++ signature)) × (last ≡ (body_of s t ++ signature) ++ drop (length (body_of s t ++ signature)) old)
-      unfolding signature
-      signed-put first second last r e1 e2 p =
-          let code = code_quintets s 0 w v t [] in
-          let units = symbols_from s false sp t in
-          let body-split : body_of s t ≡ code ++ units = body_is s t ∙ rw (← ew, ← ev, es) in
-          let whole_split : body_of s t ++ signature ≡ code ++ (units ++ signature) = rw body-split (append_assoc code units signature) in
-          let a = storing-more _ _ _ _ _ (storing-all old (body_of s t ++ signature)) code (units ++ signature) whole_split first head e1 (omega (arith, length-code s 0 w v t)) in
-          let b = storing-more _ _ _ _ _ a units signature refl second body e2 eb in
-          let c = storing-more _ _ _ _ _ b signature [] (sym (append-nil signature)) last r p.1 p.0 in
-          storing-none _ _ _ _ _ c refl fits
+      signed-put {last} {r} c =
+          let body-split : body_of s t ≡ code_quintets s 0 w v t [] ++ symbols_from s false (spare_count 0 (head_width s)) t = body_is s t ∙ rw (ew, ev) in
+          let all : Stored old 0 (body_of s t ++ signature) last r = rw body-split (stored-append (stored-append a b) c) in
+          storing-none old (body_of s t ++ signature) last r [] all refl fits
 
 -- what the symbols of a text are
 module _ (t : List ℕ) where

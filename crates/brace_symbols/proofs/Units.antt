@@ -4,13 +4,13 @@ use mathlib.Core.Path.{◌≡◌, refl, sym, ap, ◌∙◌}
 use mathlib.Core.Bool.{Bool, true, false, not}
 use mathlib.Core.List.{List, [], ◌∷◌, ◌++◌, append_assoc}
 use lib.Dec.{eqb}
-use lib.ListN.{length, drop, set, get_or, length-append, drop_of_length-le}
-use lib.Seq.{sets, length-sets, drop-cons}
+use lib.ListN.{length, drop, set, get_or, length-append, length-set, drop_of_length-le}
+use lib.Seq.{drop-cons}
 use native.Mathlib.Numerals.{add-one}
 use borrow.Author.Tests.{eq-eqb, ne_eqb}
 use native.Mathlib.Omega.{arith}
 use Rattle.basis.proofs.Tests.{cases, by-lt, true-not-false}
-use Rattle.basis.proofs.Stores.{sets-append}
+use Rattle.basis.proofs.Stores.{StoringFrom, Stored, storing-piece, storing-end}
 use Rattle.ascii.specs.Ldh.{is_ldh}
 use Rattle.ascii.proofs.Ldh.{ldh-above}
 use Rattle.copying.specs.Symbols.{quintets}
@@ -36,7 +36,7 @@ pub code-append : (s : Style) (k w c : ℕ) (t rest : List ℕ) → code_quintet
 unfolding code_quintets
 code-append s k w c t rest = quintets-append _ _ rest
 
-length-quintets : (n x : ℕ) → length (quintets n x []) ≡ n
+pub length-quintets : (n x : ℕ) → length (quintets n x []) ≡ n
 unfolding quintets
 length-quintets zero x = refl
 length-quintets (suc n) x = ap suc (length-quintets n x)
@@ -47,15 +47,6 @@ length-code s k w c t = length-quintets _ _
 
 length-switch : (b : Bool) (rest : List ℕ) → length (switch_if b rest) ≡ length (switch_if b []) + length rest
 length-switch b rest = ap length (switch-append b rest) ∙ length-append (switch_if b []) rest
-
--- a hyphen that changes, or none
-pub switch-one : (b : Bool) → b ≡ true → 1 ≡ length (switch_if b [])
-unfolding switch_if
-switch-one b e = rw e
-
-pub switch-none : (b : Bool) → b ≡ false → 0 ≡ length (switch_if b [])
-unfolding switch_if
-switch-none b e = rw e
 
 -- a letter that is copied, without and with a hyphen before it
 pub letter-copying : (b : Bool) (u : ℕ) → b ≡ true → switch_if (not b) (u ∷ []) ≡ u ∷ []
@@ -70,29 +61,19 @@ letter-first b u e = rw e
 pub ldh-byte : (u : ℕ) → is_ldh u ≡ true → u < 256
 ldh-byte u e = by-lt u 123 (λ h. omega arith) (λ h. absurd (true-not-false e (ldh-above u h)))
 
--- a code, with its width and value as they are answered
-module _ (s : Style) (k u w c : ℕ) (t : List ℕ) (ew : w ≡ width_of s u) (ec : c ≡ code_of s u) where
-  code-length : length (code_quintets s k (width_of s u) (code_of s u) t []) ≡ quintet_count k w
-  code-length = length-code s k (width_of s u) (code_of s u) t ∙ rw ew
+-- two symbols stored
+pub stored_two : (old : List ℕ) (at x y : ℕ) → Stored old at (x ∷ y ∷ []) (set (set old at x) (at + 1) y) (at + 2)
+stored_two old at x y = record { stores = rw add-one; count = omega arith; long = simp length-set }
 
-  module _ (b : Bool) (symbols : List ℕ) (at : ℕ) where
-    pub coded-copying-fits : b ≡ true → at + length (switch_if b (code_quintets s k (width_of s u) (code_of s u) t [])) ≤ length symbols → at + 1 + quintet_count k w ≤ length symbols
-    unfolding switch_if
-    coded-copying-fits e h = omega (arith, code-length, rw e at h)
+-- a code after a hyphen that changes, or alone, with its width and value as they are answered
+module _ (s : Style) (k u w c : ℕ) (t : List ℕ) (ew : w ≡ width_of s u) (ec : c ≡ code_of s u) (b : Bool) where
+  pub code-copying : b ≡ true → switch_if b (code_quintets s k (width_of s u) (code_of s u) t []) ≡ 45 ∷ code_quintets s k w c t []
+  unfolding switch_if
+  code-copying e = rw (e, ew, ec)
 
-    pub coded-fits : b ≡ false → at + length (switch_if b (code_quintets s k (width_of s u) (code_of s u) t [])) ≤ length symbols → at + quintet_count k w ≤ length symbols
-    unfolding switch_if
-    coded-fits e h = omega (arith, code-length, rw e at h)
-
-    pub coded-copying : b ≡ true → (r : ℕ) (symbols' : List ℕ) → (r ≡ at + 1 + quintet_count k w) × (symbols' ≡ sets (set symbols at 45) (at + 1) (code_quintets s k w c t []))
-        → (r ≡ at + length (switch_if b (code_quintets s k (width_of s u) (code_of s u) t []))) × (symbols' ≡ sets symbols at (switch_if b (code_quintets s k (width_of s u) (code_of s u) t [])))
-    unfolding switch_if
-    coded-copying e r symbols' p = rw e (omega (arith, code-length, p.0), p.1 ∙ rw (ew, ec, add-one))
-
-    pub coded-plain : b ≡ false → (r : ℕ) (symbols' : List ℕ) → (r ≡ at + quintet_count k w) × (symbols' ≡ sets symbols at (code_quintets s k w c t []))
-        → (r ≡ at + length (switch_if b (code_quintets s k (width_of s u) (code_of s u) t []))) × (symbols' ≡ sets symbols at (switch_if b (code_quintets s k (width_of s u) (code_of s u) t [])))
-    unfolding switch_if
-    coded-plain e r symbols' p = rw e (omega (arith, code-length, p.0), p.1 ∙ rw (ew, ec))
+  pub code-alone : b ≡ false → switch_if b (code_quintets s k (width_of s u) (code_of s u) t []) ≡ code_quintets s k w c t []
+  unfolding switch_if
+  code-alone e = rw (e, ew, ec)
 
 -- the symbols of one unit
 module _ (s : Style) (copying : Bool) (k u : ℕ) (t : List ℕ) where
@@ -147,49 +128,26 @@ module _ (s : Style) (copying : Bool) (k u : ℕ) where
         let r = length-code s k (width_of s u) (code_of s u) [] in
         (omega (arith, q, r, ex, ew, ec), omega (arith, (width_few s u).1, ew, ec))
 
--- at most four bits are out after a unit
-out-le : (s : Style) (k u : ℕ) → k ≤ 4 → out_after s k u ≤ 4
-unfolding out_after spare_count quintet_count
-out-le s k u h = cases (is_ldh u) (λ e. rw e h) (λ e. rw e (omega (arith, (width_few s u).0)))
-
 -- the unit at i and what follows it
 split-unit : (s : Style) (copying : Bool) (out : ℕ) (t : List ℕ) (i : ℕ) → i < length t → symbols_from s copying out (drop i t)
     ≡ unit_symbols s copying out (get_or t i 0) (drop (i + 1) t) [] ++ symbols_from s (copying_after copying (get_or t i 0)) (out_after s out (get_or t i 0)) (drop (i + 1) t)
 unfolding symbols_from
 split-unit s copying out t i h = rw (drop-cons t i 0 h, add-one) (unit-append s copying out (get_or t i 0) (drop (suc i) t) _)
 
--- the symbols of the units from i on are still to be stored, from the index to on
-pub record Putting (s : Style) (k : ℕ) (t old : List ℕ) (at : ℕ) (symbols : List ℕ) (copying : Bool) (out to i : ℕ) : Type 0 where
-  pub stores : sets symbols to (symbols_from s copying out (drop i t)) ≡ sets old at (symbols_from s false k t)
-  pub count : to + length (symbols_from s copying out (drop i t)) ≡ at + length (symbols_from s false k t)
-  pub long : length symbols ≡ length old
-  pub few : out ≤ 4
-
-pub putting-start : (s : Style) (k : ℕ) (t old : List ℕ) (at : ℕ) → k ≤ 4 → Putting s k t old at old false k at 0
-putting-start s k t old at h = record { stores = refl; count = refl; long = refl; few = h }
-
-module _ {s : Style} {k : ℕ} {t old : List ℕ} {at : ℕ} {symbols : List ℕ} {copying : Bool} {out to i : ℕ} (p : Putting s k t old at symbols copying out to i) where
-  pub unit-fits : i < length t → at + length (symbols_from s false k t) ≤ length old
+-- the symbols of the units from i on, as they are stored; with no unit left there is none
+module _ {whole old symbols : List ℕ} {at to : ℕ} (s : Style) (copying : Bool) (out : ℕ) (t : List ℕ) (i : ℕ) (p : StoringFrom at old whole symbols to (symbols_from s copying out (drop i t))) where
+  pub unit-fits : i < length t → at + length whole ≤ length old
       → to + length (unit_symbols s copying out (get_or t i 0) (drop (i + 1) t) []) ≤ length symbols
   unit-fits h fits = omega (arith, p.count, p.long, ap length (split-unit s copying out t i h) ∙ length-append (unit_symbols s copying out (get_or t i 0) (drop (i + 1) t) []) _)
 
-  pub putting-turn : i < length t → (to' : ℕ) (symbols' : List ℕ) (copying' : Bool) (out' : ℕ)
-      → to' ≡ to + length (unit_symbols s copying out (get_or t i 0) (drop (i + 1) t) [])
-      → symbols' ≡ sets symbols to (unit_symbols s copying out (get_or t i 0) (drop (i + 1) t) [])
-      → copying' ≡ copying_after copying (get_or t i 0) → out' ≡ out_after s out (get_or t i 0)
-      → Putting s k t old at symbols' copying' out' to' (i + 1)
-  putting-turn h to' symbols' copying' out' et es ec eo = record {
-    stores = rw (es, et, ec, eo) (sym (sets-append symbols to (unit_symbols s copying out (get_or t i 0) (drop (i + 1) t) []) _) ∙ ap (sets symbols to) (sym (split-unit s copying out t i h)) ∙ p.stores);
-    count = rw (ec, eo) (omega (arith, p.count, ap length (split-unit s copying out t i h) ∙ length-append (unit_symbols s copying out (get_or t i 0) (drop (i + 1) t) []) _));
-    long = ap length es ∙ length-sets symbols to (unit_symbols s copying out (get_or t i 0) (drop (i + 1) t) []) ∙ p.long;
-    few = rw eo (out-le s out (get_or t i 0) p.few);
-  }
+  pub unit-stored : i < length t → {symbols' : List ℕ} {to' : ℕ} → Stored symbols to (unit_symbols s copying out (get_or t i 0) (drop (i + 1) t) []) symbols' to'
+      → {s' : Style} {copying' : Bool} {out' : ℕ} → s' ≡ s → copying' ≡ copying_after copying (get_or t i 0) → out' ≡ out_after s out (get_or t i 0)
+      → StoringFrom at old whole symbols' to' (symbols_from s' copying' out' (drop (i + 1) t))
+  unit-stored h stored es ec eo = storing-piece p (rw (es, ec, eo) (split-unit s copying out t i h)) stored
 
-  pub putting-end : length t ≤ i → (to ≡ at + length (symbols_from s false k t)) × (symbols ≡ sets old at (symbols_from s false k t))
+  pub units-stored : length t ≤ i → Stored old at whole symbols to
   unfolding symbols_from
-  putting-end h =
-      let e : symbols_from s copying out (drop i t) ≡ [] = rw drop_of_length-le in
-      (omega (arith, p.count, ap length e), sym (ap (sets symbols to) e) ∙ p.stores)
+  units-stored h = storing-end p (rw drop_of_length-le)
 
 -- a body is the head before the units
 pub body_is : (s : Style) (t : List ℕ) → body_of s t ≡ code_quintets s 0 (head_width s) (head_value s) t [] ++ symbols_from s false (spare_count 0 (head_width s)) t
@@ -202,39 +160,37 @@ length-signed s t =
     let e = ap length (body_is s t) ∙ length-append (code_quintets s 0 (head_width s) (head_value s) t []) (symbols_from s false (spare_count 0 (head_width s)) t) in
     omega (arith, length-append (body_of s t) (45 ∷ 6 ∷ 22 ∷ 7 ∷ []), e, length-code s 0 (head_width s) (head_value s) t)
 
--- n symbols are counted, those of the units from i on are left
-pub record Tallying (s : Style) (t : List ℕ) (n : ℕ) (copying : Bool) (out i : ℕ) : Type 0 where
-  pub total : length (body_of s t ++ signature) ≡ n + length (symbols_from s copying out (drop i t))
+-- n symbols of a whole row are counted, those of the units from i on are left
+pub record Tallying (whole t : List ℕ) (n : ℕ) (s : Style) (copying : Bool) (out i : ℕ) : Type 0 where
+  pub total : length whole ≡ n + length (symbols_from s copying out (drop i t))
   pub most : n ≤ 63
-  pub few : out ≤ 4
 
-pub tallying-start : (s : Style) (t : List ℕ) (w n out : ℕ) → w ≡ head_width s → n ≡ quintet_count 0 w → out ≡ spare_count 0 w → Tallying s t (4 + n) false out 0
-unfolding quintet_count spare_count
-tallying-start s t w n out ew en eo = record {
-  total = rw (eo, en, ew) (length-signed s t);
+pub tallying-start : (s : Style) (t : List ℕ) (w n : ℕ) (s' : Style) (copying : Bool) (out : ℕ) → w ≡ head_width s → n ≡ quintet_count 0 w
+    → s' ≡ s → copying ≡ false → out ≡ spare_count 0 (head_width s) → Tallying (body_of s t ++ signature) t (4 + n) s' copying out 0
+unfolding quintet_count
+tallying-start s t w n s' copying out ew en es ec eo = record {
+  total = rw (es, ec, eo, en, ew) (length-signed s t);
   most = omega (arith, (head_few s).1, ew, en);
-  few = omega (arith, eo);
 }
 
-module _ {s : Style} {t : List ℕ} {n : ℕ} {copying : Bool} {out i : ℕ} (p : Tallying s t n copying out i) where
+module _ {whole t : List ℕ} {n : ℕ} {s : Style} {copying : Bool} {out i : ℕ} (p : Tallying whole t n s copying out i) where
   unit-counted : i < length t → (r : ℕ) → r ≡ length (unit_symbols s copying out (get_or t i 0) [] [])
-      → length (body_of s t ++ signature) ≡ n + r + length (symbols_from s (copying_after copying (get_or t i 0)) (out_after s out (get_or t i 0)) (drop (i + 1) t))
+      → length whole ≡ n + r + length (symbols_from s (copying_after copying (get_or t i 0)) (out_after s out (get_or t i 0)) (drop (i + 1) t))
   unit-counted h r e =
       let q = ap length (split-unit s copying out t i h) ∙ length-append (unit_symbols s copying out (get_or t i 0) (drop (i + 1) t) []) _ in
       omega (arith, p.total, q, unit-alone s copying out (get_or t i 0) (drop (i + 1) t), e)
 
-  pub tallying-over : i < length t → (r : ℕ) → r ≡ length (unit_symbols s copying out (get_or t i 0) [] []) → 63 < n + r → 64 ≡ min 64 (length (body_of s t ++ signature))
+  pub tallying-over : i < length t → (r : ℕ) → r ≡ length (unit_symbols s copying out (get_or t i 0) [] []) → 63 < n + r → 64 ≡ min 64 (length whole)
   tallying-over h r e l = omega (arith, unit-counted h r e)
 
   pub tallying-turn : i < length t → (r : ℕ) → r ≡ length (unit_symbols s copying out (get_or t i 0) [] []) → n + r ≤ 63
-      → (copying' : Bool) (out' : ℕ) → copying' ≡ copying_after copying (get_or t i 0) → out' ≡ out_after s out (get_or t i 0) → Tallying s t (n + r) copying' out' (i + 1)
-  tallying-turn h r e l copying' out' ec eo = record {
-    total = rw (ec, eo) (unit-counted h r e);
+      → (s' : Style) (copying' : Bool) (out' : ℕ) → s' ≡ s → copying' ≡ copying_after copying (get_or t i 0) → out' ≡ out_after s out (get_or t i 0) → Tallying whole t (n + r) s' copying' out' (i + 1)
+  tallying-turn h r e l s' copying' out' es ec eo = record {
+    total = rw (es, ec, eo) (unit-counted h r e);
     most = l;
-    few = rw eo (out-le s out (get_or t i 0) p.few);
   }
 
-  pub tallying-end : length t ≤ i → n ≡ min 64 (length (body_of s t ++ signature))
+  pub tallying-end : length t ≤ i → n ≡ min 64 (length whole)
   unfolding symbols_from
   tallying-end h =
       let e : symbols_from s copying out (drop i t) ≡ [] = rw drop_of_length-le in

@@ -6,15 +6,15 @@ use mathlib.Core.List.{List, [], ◌∷◌, ◌++◌}
 use lib.Arith.{digits_lt}
 use lib.Dec.{eqb, leb, ltb}
 use lib.ListN.{length, drop, get_or, length-append, length-drop, drop_of_length-le}
-use lib.Pow.{pow-add, pow_pos, pow_mono}
-use lib.Seq.{sets, drop-cons}
+use lib.Pow.{pow-add, pow_pos}
+use lib.Seq.{drop-cons}
 use borrow.Author.Tests.{eq-eqb, ne_eqb, le-leb, lt-leb, leb-false}
 use native.Mathlib.Nat.{mod-lt}
 use native.Mathlib.Numerals.{add-one}
 use native.Mathlib.Omega.{arith}
 use Rattle.basis.specs.Tests.{both}
 use Rattle.basis.proofs.Tests.{cases}
-use Rattle.basis.proofs.Stores.{Storing, storing-all, storing-more, storing-none}
+use Rattle.basis.proofs.Stores.{Storing, Stored, storing-all, storing-piece, storing-none}
 use Rattle.alphabet.specs.Alphabet.{brace}
 use Rattle.copying.specs.Symbols.{head_number, quintet_of}
 use Rattle.copying.specs.Modes.{is_copied, is_coded, is_second, next_mode}
@@ -131,56 +131,48 @@ left-fits s k v h g =
     (λ e. rw e (omega (arith, b.0), mod-lt v (pow_pos (k - width_by s (v / 2 ^ (k - 2))))))
     (λ e. rw e (omega (arith, b.1, leb-false (width_by s (v / 2 ^ (k - 2))) k e), g))
 
-next_fits : (s : Style) (m : Mode) (k v b : ℕ) → k ≤ 17 → v < 2 ^ k → (next_count s m k v b ≤ 17) × (next_value s m k v b < 2 ^ next_count s m k v b)
+pub next_fits : (s : Style) (m : Mode) (k v b : ℕ) → k ≤ 17 → v < 2 ^ k → (next_count s m k v b ≤ 17) × (next_value s m k v b < 2 ^ next_count s m k v b)
 unfolding next_count next_value
 next_fits s m k v b h g =
     cases (is_coded m b)
     (λ e. rw e (left-fits s (k + 5) (v * 32 + quintet_of brace b) (omega arith) (rw (pow-add 2 k 5) (digits_lt g (quintet-lt b)))))
     (λ e. rw e (h, g))
 
--- the text of the bytes from i on is still to be stored; the reading began at the index from
-pub record Getting (s : Style) (k v from : ℕ) (body old units : List ℕ) (m : Mode) (count value at i : ℕ) : Type 0 where
-  pub storing : Storing old (text_from s Coded k v (drop from body)) units at (text_from s m count value (drop i body))
-  pub few : count ≤ 17
-  pub fits : value < 2 ^ count
+-- of a whole text that of the bytes from i on is still to be stored
+pub record Getting (whole bytes old units : List ℕ) (s : Style) (m : Mode) (count value at i : ℕ) : Type 0 where
+  pub storing : Storing old whole units at (text_from s m count value (drop i bytes))
   pub behind : at ≤ i
-  pub inside : at ≤ length body
+  pub inside : at ≤ length bytes
 
-pub getting-start : (s : Style) (k v from : ℕ) (body old : List ℕ) → k ≤ 4 → v < 2 ^ k → Getting s k v from body old old Coded k v 0 from
-getting-start s k v from body old h g =
-    record { storing = storing-all old (text_from s Coded k v (drop from body)); few = omega arith; fits = g; behind = omega arith; inside = omega arith }
+pub getting-start : (bytes old : List ℕ) (s : Style) (m : Mode) (count value : ℕ) → Getting (text_from s m count value bytes) bytes old old s m count value 0 0
+getting-start bytes old s m count value =
+    record { storing = storing-all old (text_from s m count value bytes); behind = omega arith; inside = omega arith }
 
-module _ {s : Style} {k v from : ℕ} {body old units : List ℕ} {m : Mode} {count value at i : ℕ} (p : Getting s k v from body old units m count value at i) where
-  pub value-small : value < 131072
-  value-small = let l : 2 ^ count ≤ 131072 = pow_mono p.few in omega (arith, p.fits)
-
-  pub unit-fits : i < length body → length body ≤ length old → at < length units
+module _ {whole bytes old units : List ℕ} {s : Style} {m : Mode} {count value at i : ℕ} (p : Getting whole bytes old units s m count value at i) where
+  pub unit-fits : i < length bytes → length bytes ≤ length old → at < length units
   unit-fits h g = omega (arith, p.behind, p.storing.long)
 
-  split-byte : i < length body → text_from s m count value (drop i body)
-      ≡ adds s m count value (get_or body i 0) []
-      ++ text_from s (next_mode m (get_or body i 0)) (next_count s m count value (get_or body i 0)) (next_value s m count value (get_or body i 0)) (drop (i + 1) body)
+  split-byte : i < length bytes → text_from s m count value (drop i bytes)
+      ≡ adds s m count value (get_or bytes i 0) []
+      ++ text_from s (next_mode m (get_or bytes i 0)) (next_count s m count value (get_or bytes i 0)) (next_value s m count value (get_or bytes i 0)) (drop (i + 1) bytes)
   unfolding text_from
-  split-byte h = rw (drop-cons body i 0 h, add-one) (adds-append s m count value (get_or body i 0) _)
+  split-byte h = rw (drop-cons bytes i 0 h, add-one) (adds-append s m count value (get_or bytes i 0) _)
 
-  pub getting-turn : i < length body → (at' : ℕ) (units' : List ℕ) (m' : Mode) (count' value' : ℕ)
-      → (at' ≡ at + length (adds s m count value (get_or body i 0) [])) × (units' ≡ sets units at (adds s m count value (get_or body i 0) []))
-      → m' ≡ next_mode m (get_or body i 0) → (count' ≡ next_count s m count value (get_or body i 0)) × (value' ≡ next_value s m count value (get_or body i 0))
-      → Getting s k v from body old units' m' count' value' at' (i + 1)
-  getting-turn h at' units' m' count' value' q em ec =
-      let b = next_fits s m count value (get_or body i 0) p.few p.fits in
+  pub getting-turn : i < length bytes → (at' : ℕ) (units' : List ℕ) (s' : Style) (m' : Mode) (count' value' : ℕ)
+      → Stored units at (adds s m count value (get_or bytes i 0) []) units' at'
+      → s' ≡ s → m' ≡ next_mode m (get_or bytes i 0)
+      → (count' ≡ next_count s m count value (get_or bytes i 0)) × (value' ≡ next_value s m count value (get_or bytes i 0))
+      → Getting whole bytes old units' s' m' count' value' at' (i + 1)
+  getting-turn h at' units' s' m' count' value' q es em ec =
       record {
         storing =
-            storing-more _ _ _ _ _ p.storing (adds s m count value (get_or body i 0) []) _ (split-byte h ∙ rw (em, ec.0, ec.1)) units' at' q.1 q.0;
-        few = rw ec.0 b.0;
-        fits = rw (ec.0, ec.1) b.1;
-        behind = omega (arith, q.0, adds-few s m count value (get_or body i 0), p.behind);
-        inside = omega (arith, q.0, adds-few s m count value (get_or body i 0), p.behind);
+            storing-piece p.storing (split-byte h ∙ rw (es, em, ec.0, ec.1)) q;
+        behind = omega (arith, q.count, adds-few s m count value (get_or bytes i 0), p.behind);
+        inside = omega (arith, q.count, adds-few s m count value (get_or bytes i 0), p.behind);
       }
 
-  pub getting-end : length body ≤ i → length body ≤ length old
-      → (at ≡ length (text_from s Coded k v (drop from body))) × (units ≡ text_from s Coded k v (drop from body) ++ drop (length (text_from s Coded k v (drop from body))) old)
+  pub getting-end : length bytes ≤ i → length bytes ≤ length old → (at ≡ length whole) × (units ≡ whole ++ drop (length whole) old)
   unfolding text_from
   getting-end h g =
-      let e : text_from s m count value (drop i body) ≡ [] = rw drop_of_length-le in
+      let e : text_from s m count value (drop i bytes) ≡ [] = rw drop_of_length-le in
       storing-none _ _ _ _ _ p.storing e (omega (arith, p.storing.count, ap length e, p.inside))

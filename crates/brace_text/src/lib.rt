@@ -1,29 +1,23 @@
 // Reading the text of a label's body: the head, and the queue of bits from which codes are taken.
 #![tactic(auto)]
 
-ghost use Rattle.std.specs.Prelude.{◌+◌, ◌^◌, ◌≤◌, ◌<◌, ◌≡◌, [], ◌++◌, length, drop};
-ghost use Rattle.std.proofs.lemmas.List.Edits.{sets};
+ghost use Rattle.std.specs.Prelude.{◌+◌, ◌*◌, ◌^◌, ◌≤◌, ◌<◌, ◌≡◌, [], ◌++◌, length, drop};
+ghost use Rattle.basis.specs.Internal.{Stored};
 ghost use Rattle.basis.specs.Outcome.{buffer_after};
 ghost use Rattle.utf16.specs.Answer.{units_outcome};
 ghost use Rattle.alphabet.specs.Alphabet.{brace};
 ghost use Rattle.copying.specs.Symbols.{quintet_of, head_number};
+ghost use Rattle.copying.specs.Modes.{next_mode};
 ghost use Rattle.brace_format.specs.Style.{width_by, unit_of};
 ghost use Rattle.brace_text.specs.Decoding.{due_width, count_left, value_left, unit_taken, next_count, next_value, adds, text_from, head_length, head_spare, head_style, kind_of, body_text};
 ghost use Rattle.brace_text.specs.Answer.{body_outcome};
-ghost use Rattle.brace_text.specs.Internal.{RowFits, hyphen_adds};
+ghost use Rattle.brace_text.specs.Internal.{RowFits, RowFits-prop, bits_of, hyphen_adds};
 
-use basis::ErrorCode;
+use basis::{ErrorCode, Refusal};
 use brace_format::style;
 use brace_format::style::Style;
 use copying::Mode;
-use utf16::{UnitCount, UnitsAnswer};
-
-// A queue of bits: how many, and their value.
-#[derive(Drop)]
-struct Queue {
-    count: u32,
-    value: u32,
-}
+use utf16::UnitCount;
 
 // Two to a power.
 fn power(n: u32) -> u32
@@ -34,6 +28,7 @@ fn power(n: u32) -> u32
 }
 
 // The quintet of a byte, 0 where it is none of the 32 characters.
+#[tactic(auto, unfolding(copying::specs::Symbols::quintet_of))]
 fn quintet_of(byte: u8) -> u32
     ensures value { result ≡ quintet_of brace byte }
     ensures upper_bound { result < 32 }
@@ -42,6 +37,7 @@ fn quintet_of(byte: u8) -> u32
 }
 
 // How many bits a code has that begins with these two bits, in mixed style.
+#[tactic(auto, unfolding(brace_format::specs::Style::width_by))]
 fn mixed_width_by(top: u32) -> u32
     ensures { result ≡ width_by (Style.Mixed 0) top }
 {
@@ -55,6 +51,7 @@ fn mixed_width_by(top: u32) -> u32
 }
 
 // How many bits a code has that begins with these two bits.
+#[tactic(auto, unfolding(brace_format::specs::Style::width_by))]
 fn width_by(style: Style, top: u32) -> u32
     ensures { result ≡ width_by style top }
 {
@@ -66,31 +63,8 @@ fn width_by(style: Style, top: u32) -> u32
     }
 }
 
-// How many bits the first code in a queue has.
-fn due_width(style: Style, count: u32, value: u32) -> u32
-    requires { (2 ≤ count) × (count ≤ 22) }
-    ensures { result ≡ due_width style count value }
-{
-    width_by(style, value >> (count - 2))
-}
-
-// The queue without its first code, if that is whole.
-fn without_code(style: Style, count: u32, value: u32) -> Queue
-    requires { (2 ≤ count) × (count ≤ 22) }
-    ensures { (result.count ≡ count_left style count value) × (result.value ≡ value_left style count value) }
-{
-    let width = due_width(style, count, value);
-    if count < width {
-        return Queue { count, value };
-    }
-    let left = count - width;
-    Queue {
-        count: left,
-        value: value % power(left),
-    }
-}
-
 // The unit of a code in mixed style.
+#[tactic(auto, unfolding(brace_format::specs::Style::unit_of, brace_format::specs::Style::other_half))]
 fn mixed_unit(half: u16, code: u32) -> u16
     requires { half < 512 }
     ensures { result ≡ unit_of (Style.Mixed half) code }
@@ -105,6 +79,7 @@ fn mixed_unit(half: u16, code: u32) -> u16
 }
 
 // The unit of a code.
+#[tactic(auto, unfolding(brace_format::specs::Style::unit_of, crate::specs::Internal::RowFits))]
 fn unit_of(style: Style, code: u32) -> u16
     requires { RowFits style }
     ensures { result ≡ unit_of style code }
@@ -117,27 +92,10 @@ fn unit_of(style: Style, code: u32) -> u16
     }
 }
 
-// Stores the unit of a queue's first code, if that is whole, and answers the index after it.
-fn put_taken(style: Style, count: u32, value: u32, units: &mut [u16], at: usize) -> usize
-    requires le_count { (2 ≤ count) × (count ≤ 22) × RowFits style }
-    requires at_in_bounds { at < length units.old }
-    ensures value { result ≡ at + length (unit_taken style count value []) }
-    ensures units_after { units.new ≡ sets units.old at (unit_taken style count value []) }
-{
-    let width = due_width(style, count, value);
-    if count < width {
-        return at;
-    }
-    let left = count - width;
-    units[at] = unit_of(style, value >> left);
-    at + 1
-}
-
 // Stores a hyphen if it is the second of a pair, and answers the index after it.
 fn put_hyphen(mode: Mode, units: &mut [u16], at: usize) -> usize
     requires { at < length units.old }
-    ensures value { result ≡ at + length (hyphen_adds mode) }
-    ensures units_after { units.new ≡ sets units.old at (hyphen_adds mode) }
+    ensures { Stored units.old at (hyphen_adds mode) units.new result }
 {
     if copying::is_second(mode) {
         units[at] = 45;
@@ -146,132 +104,219 @@ fn put_hyphen(mode: Mode, units: &mut [u16], at: usize) -> usize
     at
 }
 
-// Stores what a byte adds to the text, and answers the index after it.
-fn put_byte(
-    style: Style,
-    mode: Mode,
+// A queue of bits: how many, and their value.
+// Kept as clauses: `2 ≤ self.count` holds only of a queue that `with` has just lengthened; one between two bytes may be empty.
+#[derive(Clone, Copy)]
+struct Queue {
     count: u32,
     value: u32,
-    byte: u8,
-    units: &mut [u16],
-    at: usize,
-) -> usize
-    requires count_bound { (count ≤ 17) × (value < 131072) × RowFits style }
-    requires at_in_bounds { at < length units.old }
-    ensures value { result ≡ at + length (adds style mode count value byte []) }
-    ensures units_after { units.new ≡ sets units.old at (adds style mode count value byte []) }
-{
-    if byte == 45 {
-        return put_hyphen(mode, units, at);
-    }
-    if copying::is_copied(mode) {
-        units[at] = byte as u16;
-        return at + 1;
-    }
-    let quintet = quintet_of(byte);
-    put_taken(style, count + 5, value * 32 + quintet, units, at)
+    ghost few: { count ≤ 22 },
+    ghost fits: { value < 2 ^ count },
 }
 
-// The queue after a byte.
-fn next_queue(style: Style, mode: Mode, count: u32, value: u32, byte: u8) -> Queue
-    requires { (count ≤ 17) × (value < 131072) }
-    ensures { (result.count ≡ next_count style mode count value byte) × (result.value ≡ next_value style mode count value byte) }
-{
-    if byte == 45 {
-        return Queue { count, value };
+impl Queue {
+    // The queue with a quintet at its end.
+    fn with(self, quintet: u32) -> Self
+        requires { (self.count ≤ 17) × (quintet < 32) }
+        ensures { (result.count ≡ self.count + 5) × (result.value ≡ self.value * 32 + quintet) }
+    {
+        Queue {
+            count: self.count + 5,
+            value: self.value * 32 + quintet,
+        }
     }
-    if copying::is_copied(mode) {
-        return Queue { count, value };
+
+    // How many bits its first code has.
+    #[tactic(auto, unfolding(crate::specs::Decoding::due_width))]
+    fn due_width(self, style: Style) -> u32
+        requires { 2 ≤ self.count }
+        ensures { result ≡ due_width style self.count self.value }
+    {
+        width_by(style, self.value >> (self.count - 2))
     }
-    let quintet = quintet_of(byte);
-    without_code(style, count + 5, value * 32 + quintet)
+
+    // The queue without its first code, if that is whole.
+    #[tactic(auto, unfolding(crate::specs::Decoding::count_left, crate::specs::Decoding::value_left, crate::specs::Decoding::is_whole))]
+    fn without_code(self, style: Style) -> Self
+        requires { 2 ≤ self.count }
+        ensures { (result.count ≡ count_left style self.count self.value) × (result.value ≡ value_left style self.count self.value) }
+    {
+        let width = self.due_width(style);
+        if self.count < width {
+            return self;
+        }
+        let left = self.count - width;
+        Queue {
+            count: left,
+            value: self.value % power(left),
+        }
+    }
+
+    // Stores the unit of its first code, if that is whole, and answers the index after it.
+    fn put_taken(self, style: Style, units: &mut [u16], at: usize) -> usize
+        requires le_count { (2 ≤ self.count) × RowFits style }
+        requires at_in_bounds { at < length units.old }
+        ensures { Stored units.old at (unit_taken style self.count self.value []) units.new result }
+    {
+        let width = self.due_width(style);
+        if self.count < width {
+            return at;
+        }
+        let left = self.count - width;
+        units[at] = unit_of(style, self.value >> left);
+        at + 1
+    }
 }
 
-// Stores the text of the bytes from an index on, with k bits of value v in the queue, and answers the number of its units.
-fn put_text(style: Style, k: u32, v: u32, body: &[u8], from: usize, units: &mut [u16]) -> usize
-    requires k_bound { (k ≤ 4) × (v < 2 ^ k) × RowFits style }
-    requires body_in_bounds { length body.now ≤ length units.old }
-    ensures value { result ≡ length (text_from style Mode.Coded k v (drop from body.now)) }
-    ensures units_after { units.new ≡ text_from style Mode.Coded k v (drop from body.now) ++ drop (length (text_from style Mode.Coded k v (drop from body.now))) units.old }
+// Where reading stands in a body: its style, the mode and the queue.
+#[derive(Clone, Copy)]
+struct Progress {
+    style: Style,
+    mode: Mode,
+    queue: Queue,
+    ghost row_fits: { RowFits style } by { RowFits-prop style },
+    ghost few: { queue.count ≤ 17 },
+}
+
+impl Progress {
+    // Stores what a byte adds to the text, and answers the index after it.
+    fn put_byte(self, byte: u8, units: &mut [u16], at: usize) -> usize
+        requires { at < length units.old }
+        ensures { Stored units.old at (adds self.style self.mode self.queue.count self.queue.value byte []) units.new result }
+    {
+        if byte == 45 {
+            return put_hyphen(self.mode, units, at);
+        }
+        if copying::is_copied(self.mode) {
+            units[at] = byte as u16;
+            return at + 1;
+        }
+        let longer = self.queue.with(quintet_of(byte));
+        longer.put_taken(self.style, units, at)
+    }
+
+    // The queue after a byte.
+    fn next_queue(self, byte: u8) -> Queue
+        ensures { (result.count ≡ next_count self.style self.mode self.queue.count self.queue.value byte) × (result.value ≡ next_value self.style self.mode self.queue.count self.queue.value byte) }
+    {
+        if byte == 45 {
+            return self.queue;
+        }
+        if copying::is_copied(self.mode) {
+            return self.queue;
+        }
+        let longer = self.queue.with(quintet_of(byte));
+        longer.without_code(self.style)
+    }
+
+    // After a byte.
+    fn after(self, byte: u8) -> Self
+        ensures styled { result.style ≡ self.style }
+        ensures mode { result.mode ≡ next_mode self.mode byte }
+        ensures queue { (result.queue.count ≡ next_count self.style self.mode self.queue.count self.queue.value byte) × (result.queue.value ≡ next_value self.style self.mode self.queue.count self.queue.value byte) }
+    {
+        let mode = copying::next_mode(self.mode, byte);
+        let queue = self.next_queue(byte);
+        Progress {
+            style: self.style,
+            mode,
+            queue,
+        }
+    }
+}
+
+// Stores the text of the bytes after the head, and answers the number of its units.
+fn put_text(start: Progress, rest: &[u8], units: &mut [u16]) -> usize
+    requires { length rest.now ≤ length units.old }
+    ensures value { result ≡ length (text_from start.style start.mode start.queue.count start.queue.value rest.now) }
+    ensures units_after { units.new ≡ text_from start.style start.mode start.queue.count start.queue.value rest.now ++ drop (length (text_from start.style start.mode start.queue.count start.queue.value rest.now)) units.old }
 {
-    let mut mode = Mode::Coded;
-    let mut count = k;
-    let mut value = v;
+    let mut progress = start;
     let mut at = 0;
-    let mut i = from;
-    while i < body.len() {
-        let byte = body[i];
-        at = put_byte(style, mode, count, value, byte, units, at);
-        let next = next_queue(style, mode, count, value, byte);
-        mode = copying::next_mode(mode, byte);
-        count = next.count;
-        value = next.value;
-        i += 1;
+    for &byte in rest {
+        at = progress.put_byte(byte, units, at);
+        progress = progress.after(byte);
     }
     at
 }
 
-// The two bits of a body's style.
-fn kind_of(body: &[u8]) -> u32
-    ensures { result ≡ kind_of body.now }
+// The kinds of style, of which the head names one.
+#[derive(Clone, Copy)]
+enum Kind {
+    HalfRow,
+    Row,
+    Mixed,
+    NoRow,
+}
+
+// The kind of a body's style.
+#[tactic(auto, using(crate::proofs::Head::empty_kind), unfolding(crate::specs::Decoding::kind_of))]
+fn kind_of(body: &[u8]) -> Kind
+    ensures { bits_of result ≡ kind_of body.now }
 {
     if body.len() == 0 {
-        return 0;
+        return Kind::HalfRow;
     }
-    quintet_of(body[0]) / 8
-}
-
-// How many characters the head of a body takes.
-fn head_length(kind: u32) -> usize
-    ensures value { result ≡ head_length kind }
-    ensures upper_bound { result ≤ 3 }
-{
-    match kind {
-        0 => 3,
-        1 => 2,
-        2 => 3,
-        _ => 1,
+    match quintet_of(body[0]) / 8 {
+        0 => Kind::HalfRow,
+        1 => Kind::Row,
+        2 => Kind::Mixed,
+        _ => Kind::NoRow,
     }
 }
 
-// How many bits of the first code the head holds.
-fn head_spare(kind: u32) -> u32
-    ensures value { result ≡ head_spare kind }
-    ensures upper_bound { result ≤ 4 }
-{
-    match kind {
-        0 => 4,
-        1 => 0,
-        2 => 4,
-        _ => 3,
+impl Kind {
+    // How many characters the head of a body takes.
+    #[tactic(auto, unfolding(crate::specs::Decoding::head_length))]
+    fn head_length(self) -> usize
+        ensures value { result ≡ head_length (bits_of self) }
+        ensures upper_bound { result ≤ 3 }
+    {
+        match self {
+            Kind::HalfRow => 3,
+            Kind::Row => 2,
+            Kind::Mixed => 3,
+            Kind::NoRow => 1,
+        }
+    }
+
+    // How many bits of the first code the head holds.
+    #[tactic(auto, unfolding(crate::specs::Decoding::head_spare))]
+    fn head_spare(self) -> u32
+        ensures value { result ≡ head_spare (bits_of self) }
+        ensures upper_bound { result ≤ 4 }
+    {
+        match self {
+            Kind::HalfRow => 4,
+            Kind::Row => 0,
+            Kind::Mixed => 4,
+            Kind::NoRow => 3,
+        }
+    }
+
+    // The style by the number that the head holds.
+    #[tactic(auto, unfolding(crate::specs::Decoding::head_style, crate::specs::Internal::RowFits))]
+    fn head_style(self, number: u32) -> Style
+        ensures value { result ≡ head_style (bits_of self) number }
+        ensures row_fits { RowFits result }
+    {
+        match self {
+            Kind::HalfRow => Style::HalfRow((number / 16 % 512) as u16),
+            Kind::Row => Style::Row((number % 256) as u16),
+            Kind::Mixed => Style::Mixed((number / 16 % 512) as u16),
+            Kind::NoRow => Style::NoRow,
+        }
     }
 }
 
-// The style by the number that the head holds.
-fn head_style(kind: u32, number: u32) -> Style
-    ensures { result ≡ head_style kind number }
-{
-    match kind {
-        0 => Style::HalfRow((number / 16 % 512) as u16),
-        1 => Style::Row((number % 256) as u16),
-        2 => Style::Mixed((number / 16 % 512) as u16),
-        _ => Style::NoRow,
-    }
-}
-
-// The number whose quintets are the first n bytes.
-fn head_number(n: usize, body: &[u8]) -> u32
-    requires { n ≤ 3 }
-    ensures { result ≡ head_number brace n 0 body.now }
+// The number whose quintets are the bytes.
+fn head_number(head: &[u8]) -> u32
+    requires { length head.now ≤ 3 }
+    ensures { result ≡ head_number brace (length head.now) 0 head.now }
 {
     let mut number = 0;
-    let mut i = 0;
-    while i < n {
-        if body.len() <= i {
-            return number;
-        }
-        number = number * 32 + quintet_of(body[i]);
-        i += 1;
+    for &byte in head {
+        number = number * 32 + quintet_of(byte);
     }
     number
 }
@@ -283,24 +328,28 @@ fn put_body(body: &[u8], units: &mut [u16]) -> usize
     ensures units_after { units.new ≡ body_text body.now ++ drop (length (body_text body.now)) units.old }
 {
     let kind = kind_of(body);
-    let length = head_length(kind);
-    let number = head_number(length, body);
-    let spare = head_spare(kind);
-    let style = head_style(kind, number);
-    put_text(style, spare, number % power(spare), body, length, units)
+    let (head, rest) = body.split_at(kind.head_length().min(body.len()));
+    let number = head_number(head);
+    let spare = kind.head_spare();
+    let start = Progress {
+        style: kind.head_style(number),
+        mode: Mode::Coded,
+        queue: Queue {
+            count: spare,
+            value: number % power(spare),
+        },
+    };
+    put_text(start, rest, units)
 }
 
 // Reads the text of a body.
-pub fn read_body(body: &[u8], units: &mut [u16]) -> UnitsAnswer
+pub fn read_body(body: &[u8], units: &mut [u16]) -> Result<UnitCount, Refusal>
     ensures result_value { units_outcome result ≡ body_outcome (length units.old) body.now }
     ensures units_after { units.new ≡ buffer_after (body_outcome (length units.old) body.now) (body_text body.now) units.old }
 {
     if units.len() < body.len() {
-        return UnitsAnswer::Error {
-            code: ErrorCode::Capacity,
-            position: 0,
-        };
+        return Err(ErrorCode::Capacity.at(0));
     }
     let count = put_body(body, units);
-    UnitsAnswer::Units(UnitCount(count))
+    Ok(UnitCount(count))
 }

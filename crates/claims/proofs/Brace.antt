@@ -1,4 +1,5 @@
 -- BRACE is as the draft says.
+use Rattle.std.proofs.Common.{Some}
 use Prim.Native.Nat.{ℕ, ◌*◌, ◌%◌}
 use mathlib.Core.Path.{◌≡◌, refl, sym, ap, ◌∙◌}
 use mathlib.Core.Bool.{false}
@@ -27,12 +28,11 @@ use Rattle.brace_facts.proofs.Published.{published}
 use Rattle.brace_facts.proofs.Points.{units-straight, label-straight, text-straight}
 use Rattle.scheme.specs.Naming.{row_of, schemes, number_of, first_with, own_number_names, number_names, is_known, scheme_named}
 use Rattle.scheme.specs.declared.Scheme.TheVariants.{Brace}
-use Rattle.scheme.specs.declared.Named.TheVariants.{Known}
 use Rattle.firmware.specs.Answer.{write_by, write_outcome, written_label, read_by, read_outcome, read_text}
 use Rattle.claims.specs.Brace.{BraceAsDrafted}
 
 -- 3 names BRACE
-three-is-brace : number_names 3 ≡ Known Brace
+three-is-brace : number_names 3 ≡ Some Brace
 unfolding number_names own_number_names first_with schemes number_of row_of
 three-is-brace = refl
 

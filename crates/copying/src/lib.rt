@@ -14,6 +14,7 @@ pub enum Mode {
 }
 
 // The mode after a hyphen.
+#[tactic(auto, unfolding(crate::specs::Modes::after_hyphen))]
 fn after_hyphen(mode: Mode) -> Mode
     ensures { result ≡ after_hyphen mode }
 {
@@ -26,6 +27,7 @@ fn after_hyphen(mode: Mode) -> Mode
 }
 
 // The mode after any other byte.
+#[tactic(auto, unfolding(crate::specs::Modes::after_other))]
 fn after_other(mode: Mode) -> Mode
     ensures { result ≡ after_other mode }
 {
@@ -38,27 +40,19 @@ fn after_other(mode: Mode) -> Mode
 }
 
 // Whether the byte before was the first hyphen of a pair, or a change.
+#[tactic(auto, unfolding(crate::specs::Modes::is_second))]
 pub fn is_second(mode: Mode) -> bool
     ensures { result ≡ is_second mode }
 {
-    match mode {
-        Mode::Coded => false,
-        Mode::CodedHyphen => true,
-        Mode::Copied => false,
-        Mode::CopiedHyphen => true,
-    }
+    matches!(mode, Mode::CodedHyphen | Mode::CopiedHyphen)
 }
 
 // Whether a byte other than a hyphen is copied.
+#[tactic(auto, unfolding(crate::specs::Modes::is_copied))]
 pub fn is_copied(mode: Mode) -> bool
     ensures { result ≡ is_copied mode }
 {
-    match mode {
-        Mode::Coded => false,
-        Mode::CodedHyphen => true,
-        Mode::Copied => true,
-        Mode::CopiedHyphen => false,
-    }
+    matches!(mode, Mode::CodedHyphen | Mode::Copied)
 }
 
 // The mode after a byte.

@@ -8,7 +8,7 @@ ghost use Rattle.std.specs.Prelude.{◌≡◌, ◌≤◌, length};
 ghost use Rattle.basis.specs.Outcome.{count_of, bytes_outcome, buffer_after};
 ghost use Rattle.firmware.specs.Answer.{answer_of, write_outcome, written_label, read_outcome, read_text};
 
-use basis::BytesAnswer;
+use basis::{ByteCount, Refusal};
 
 // The bytes that a label has at most, which is also the points that its text has at most.
 pub const LABEL_BYTES: usize = 63;
@@ -23,13 +23,14 @@ pub const TEXT_POINTS: usize = 126;
 pub const REFUSED: u32 = 1000;
 
 // The one number of an answer: the bytes written, or 1000 plus the error's number.
-fn answer_number(answer: BytesAnswer) -> u32
+fn answer_number(answer: Result<ByteCount, Refusal>) -> u32
     requires { count_of (bytes_outcome answer) ≤ 252 }
     ensures { result ≡ answer_of (bytes_outcome answer) }
 {
+    // Kept as one number: the C interface answers so.
     match answer {
-        BytesAnswer::Bytes(count) => count.0 as u32,
-        BytesAnswer::Error { code, position: _ } => REFUSED + basis::code_number(code),
+        Ok(count) => count.0 as u32,
+        Err(refusal) => REFUSED + u32::from(refusal.code),
     }
 }
 

@@ -24,7 +24,7 @@ use Rattle.lace_encoding.specs.Encoding.{label_of}
 use Rattle.lace_decoding.specs.Decoding.{text_of}
 use Rattle.lace_decoding.proofs.Lengths.{accepted-has}
 use Rattle.lace.specs.Answer as lace
-use Rattle.host_name.specs.Parts.{first_dot, has_dot}
+use Rattle.host_name.specs.Parts.{has_dot}
 use Rattle.host_name.specs.Answer.{part_label, part_written, part_text, lace_read, plain_read, part_read}
 
 -- what a refusal and an answer leave, by what is answered
@@ -124,18 +124,18 @@ module _ (part : List ℕ) (capacity : ℕ) (room : 63 ≤ capacity) (answer : O
     text-is = values-are (lace.decode_outcome is_host_label capacity part) (text_of part) old now count (sym is ∙ answered) has left
 
     -- a dot in the text is 16; without one the answer stays
-    pub lace-dotted : first_dot (take count now) < count → (refusal : Outcome) → refusal ≡ refused 16 0
+    pub lace-dotted : has_dot (take count now) ≡ true → (refusal : Outcome) → refusal ≡ refused 16 0
         → (refusal ≡ lace_read part) × ((n : ℕ) → lace_read part ≡ done n → now ≡ text_of part ++ drop n old)
-    unfolding lace_read and_then has_dot
+    unfolding lace_read and_then
     lace-dotted h refusal e =
-        let g : first_dot (text_of part) < length (text_of part) = rw (text-is, has) at h in
-        refused-part (lace_read part) refusal (text_of part) old now (rw (same, answered) (stop-below 16 0 _ _ _ g)) e
+        let g : has_dot (text_of part) ≡ true = rw text-is at h in
+        refused-part (lace_read part) refusal (text_of part) old now (rw (same, answered) (stop-if 16 0 _ _ g)) e
 
-    pub lace-done : count ≤ first_dot (take count now) → (answer ≡ lace_read part) × ((n : ℕ) → lace_read part ≡ done n → now ≡ text_of part ++ drop n old)
-    unfolding lace_read and_then has_dot buffer_after
+    pub lace-done : has_dot (take count now) ≡ false → (answer ≡ lace_read part) × ((n : ℕ) → lace_read part ≡ done n → now ≡ text_of part ++ drop n old)
+    unfolding lace_read and_then buffer_after
     lace-done h =
-        let g : length (text_of part) ≤ first_dot (text_of part) = rw (text-is, has) at h in
-        let w : lace_read part ≡ done count = rw (same, answered) (pass_below 16 0 _ _ _ g ∙ ap done (sym has)) in
+        let g : has_dot (text_of part) ≡ false = rw text-is at h in
+        let w : lace_read part ≡ done count = rw (same, answered) (pass-if 16 0 _ _ g ∙ ap done (sym has)) in
         (answered ∙ sym w, λ n d. let c : count ≡ n = done-count w d in rw (sym is ∙ answered, c) at left)
 
 -- a plain label, by its tests in turn
@@ -193,14 +193,15 @@ read_has part n e =
     let rest = (passed _ _ _ _ _ e).1 in
     cases (has_prefix prefix part) (λ b. rw b (lace-read-has part n (rw b at rest))) (λ b. rw b (plain-has part n (rw b at rest)))
 
--- a piece that was put at the front of the part of a buffer from an index on
-pub put-behind : (made piece part : List ℕ) (at n : ℕ) → n ≡ length piece → at + n ≤ length made → part ≡ piece ++ drop n (take (length made - at) (drop at made))
-    → take at made ++ (part ++ drop (length made - at) (drop at made)) ≡ sets made at piece
-put-behind made piece part at n is fits e =
+-- a piece that was put at the front of the part of a buffer of so many elements from an index on
+pub put-behind : (made piece part : List ℕ) (capacity at n : ℕ) → length made ≡ capacity → n ≡ length piece → at + n ≤ capacity → part ≡ piece ++ drop n (take (capacity - at) (drop at made))
+    → take at made ++ (part ++ drop (capacity - at) (drop at made)) ≡ sets made at piece
+put-behind made piece part capacity at n long is fits e =
     let m : at + length piece ≤ length made = omega arith in
-    part-back at made part
-    ∙ ap (λ (l : List ℕ). take at made ++ l) (e ∙ ap (λ (l : List ℕ). piece ++ drop n l) (part-is at made) ∙ ap (λ (l : List ℕ). piece ++ l) (drop-drop n at made))
-    ∙ rw is (sym (sets-eq piece made at m ∙ append_assoc (take at made) piece (drop (at + length piece) made)))
+    rw (← long)
+    (part-back at made part
+    ∙ ap (λ (l : List ℕ). take at made ++ l) (rw (← long) at e ∙ ap (λ (l : List ℕ). piece ++ drop n l) (part-is at made) ∙ ap (λ (l : List ℕ). piece ++ l) (drop-drop n at made))
+    ∙ rw is (sym (sets-eq piece made at m ∙ append_assoc (take at made) piece (drop (at + length piece) made))))
 
 -- a refusal of a part is told at its index
 pub told_at : (outcome next answer : Outcome) (index : ℕ) {number position : ℕ} → outcome ≡ refused number position → answer ≡ refused number index

@@ -1,40 +1,57 @@
--- Laws on parts, as they are met from the front: the first part of a row and those after it, what is answered for them in turn,
--- and how much of what is joined is left.
-use Prim.Native.Nat.{ℕ, suc, ◌+◌, ◌-◌, ◌≤◌, ◌<◌}
-use mathlib.Core.Path.{◌≡◌, refl, sym, ap, ◌∙◌}
-use mathlib.Core.List.{List, [], ◌∷◌, ◌++◌, map}
+-- Laws on parts, as they come from the library's `split`: the part that comes and those after it, what is answered for them in
+-- turn, and how much of what is joined is left.
+use Prim.Native.Nat.{ℕ, suc, ◌+◌}
+use mathlib.Core.Path.{◌≡◌, refl, sym, ap, subst, ◌∙◌}
+use mathlib.Core.Bool.{true, false}
+use mathlib.Core.List.{List, [], ◌∷◌, ◌++◌}
 use lib.Dec.{eqb}
-use lib.ListN.{length, take, drop, length-drop}
-use lib.Seq.{drop-drop}
-use borrow.Author.Tests.{eqb-true}
-use native.Mathlib.Nat.{le_of_suc-le-suc, zero-add}
+use borrow.Author.Tests.{eqb-true, ne_eqb, lt-ltb, le-ltb}
+use denote.Ref.{Bor}
 use native.Mathlib.Numerals.{add-one}
 use native.Mathlib.Omega.{arith}
-use Rattle.basis.specs.Tests.{first_below}
+use lib.ListN.{length}
+use Rattle.std.specs.List.{list_any, slice_split, onto_first, enumerate_from}
+use Rattle.std.proofs.Common.{Option, Some, None}
+use Rattle.std.proofs.lemmas.Iterator.{YieldsList}
 use Rattle.basis.specs.Outcome.{Outcome, done, refused, and_then}
-use Rattle.basis.proofs.Tests.{cases, first-le}
+use Rattle.basis.specs.Tests.{first_below}
+use Rattle.basis.proofs.Tests.{cases, ltb-is}
 use Rattle.basis.proofs.Outcome.{refusal-kept}
-use Rattle.host_name.specs.Parts.{dot, first_dot, join_first, parts_of, after_dots, joined}
+use Rattle.host_name.specs.Parts.{dot, first_dot, has_dot, join_first, parts_of, after_dots, joined}
 use Rattle.host_name.specs.Answer.{in_turn}
+use Rattle.host_name.specs.Internal.{dot_before}
 
-pub first-dot-le : (row : List ℕ) → first_dot row ≤ length row
-unfolding first_dot
-first-dot-le row = first-le (length row) _
+onto-first : (x : ℕ) (parts : List (List ℕ)) → onto_first x parts ≡ join_first x parts
+unfolding join_first
+onto-first x [] = refl
+onto-first x (part ∷ parts) = refl
 
--- before its first dot a row has its first part, and behind it the others
-parts_more : (row : List ℕ) → first_dot row < length row → parts_of row ≡ take (first_dot row) row ∷ parts_of (drop (suc (first_dot row)) row)
-unfolding parts_of first_dot first_below join_first
-parts_more [] h = absurd (omega arith)
-parts_more (x ∷ row) h = cases (eqb x dot) (λ e. rw e) (λ e. rw e (ap (join_first x) (parts_more row (le_of_suc-le-suc (rw e at h)))))
+-- the parts are those that the library's `split` gives
+split-parts : (row : List ℕ) → slice_split (λ x. eqb x dot) row ≡ parts_of row
+unfolding parts_of
+split-parts [] = refl
+split-parts (x ∷ row) = cases (eqb x dot) (λ e. rw (e, split-parts row)) (λ e. rw (e, split-parts row) (onto-first x (parts_of row)))
 
--- a row without a dot is its only part
-parts_last : (row : List ℕ) → length row ≤ first_dot row → parts_of row ≡ row ∷ []
-unfolding parts_of first_dot first_below join_first
-parts_last [] h = refl
-parts_last (x ∷ row) h = cases (eqb x dot) (λ e. absurd (none (rw e at h))) (λ e. rw e (ap (join_first x) (parts_last row (le_of_suc-le-suc (rw e at h)))))
-  where
-    none : {n : ℕ} → suc n ≤ 0 → ⊥
-    none h = omega arith
+-- a row whose first element is a dot holds one; after any other element the rest decides
+pub dot-first : (x : ℕ) (row : List ℕ) → eqb x dot ≡ true → has_dot (x ∷ row) ≡ true
+unfolding has_dot first_dot first_below
+dot-first x row e = lt-ltb (first_dot (x ∷ row)) (length (x ∷ row)) (rw e (omega arith))
+
+pub dot-later : (x : ℕ) (row : List ℕ) → eqb x dot ≡ false → has_dot (x ∷ row) ≡ has_dot row
+unfolding has_dot first_dot first_below
+dot-later x row e =
+    let next : first_dot (x ∷ row) ≡ suc (first_dot row) = rw e in
+    ltb-is (first_dot (x ∷ row)) (length (x ∷ row)) (has_dot row) (λ h. lt-ltb (first_dot row) (length row) (omega arith)) (λ h. le-ltb (first_dot row) (length row) (omega arith))
+
+-- the empty row holds none
+pub empty-no-dot : has_dot [] ≡ false
+unfolding has_dot first_dot first_below
+empty-no-dot = refl
+
+-- the library's `contains` finds whether a row holds a dot
+pub holds-dot : (row : List ℕ) → list_any (λ x. eqb x dot) row ≡ has_dot row
+holds-dot [] = sym empty-no-dot
+holds-dot (x ∷ row) = cases (eqb x dot) (λ e. rw e (sym (dot-first x row e))) (λ e. rw e (holds-dot row ∙ sym (dot-later x row e)))
 
 -- a row has one part at least
 pub some-parts : (row : List ℕ) → (first : List ℕ) × (others : List (List ℕ)) × (parts_of row ≡ first ∷ others)
@@ -61,72 +78,62 @@ parts_join (x ∷ row) =
     (λ e. let (first, others, is) = some-parts row in rw (e, joined-after (parts_of row) first others is, parts_join row, eqb-true x dot e))
     (λ e. rw (e, joined-first x (parts_of row), parts_join row))
 
--- a part and those of a row, joined, have a dot after the part
-joined-more : (value : List ℕ → List ℕ) (part row : List ℕ) → joined (map value (part ∷ parts_of row)) ≡ value part ++ (dot ∷ joined (map value (parts_of row)))
-unfolding joined after_dots
-joined-more value part row = let s = some-parts row in rw s.2
+-- what parts from this index on make, with a dot before each but the first
+unfoldable pub left_from : ℕ → List (List ℕ) → List ℕ
+left_from index [] = []
+left_from index (part ∷ parts) = dot_before index ++ (part ++ after_dots parts)
 
--- what the parts from an index of the row on make, joined
-abbrev pub left_from : (value : List ℕ → List ℕ) (row : List ℕ) (from : ℕ) → List ℕ
-left_from value row from = joined (map value (parts_of (drop from row)))
+pub left-first : (parts : List (List ℕ)) → left_from 0 parts ≡ joined parts
+unfolding left_from joined
+left-first [] = refl
+left-first (part ∷ parts) = refl
 
--- the part whose turn it is: those before it are answered in turn, and it goes from an index to the next dot, or to the end
-pub record Turn (answer : List ℕ → Outcome) (row : List ℕ) (index from end : ℕ) : Type 0 where
-  pub start : from ≤ end
-  pub inside : end ≤ length row
-  pub few : index ≤ from
-  pub ends : end ≡ from + first_dot (drop from row)
-  pub turns : (next : Outcome) → in_turn answer 0 (parts_of row) next ≡ in_turn answer index (parts_of (drop from row)) next
+pub left-next : (index : ℕ) (parts : List (List ℕ)) → left_from (index + 1) parts ≡ after_dots parts
+unfolding left_from after_dots
+left-next index [] = refl
+left-next index (part ∷ parts) = rw (ne_eqb (index + 1) 0 (λ e. omega arith))
 
-pub turn-first : (answer : List ℕ → Outcome) (row : List ℕ) (end : ℕ) → end ≡ first_dot row → Turn answer row 0 0 end
-turn-first answer row end is = record {
-  start = omega arith;
-  inside = omega (arith, first-dot-le row);
-  few = omega arith;
-  ends = is ∙ sym (zero-add (first_dot row));
+-- the parts from this index on are those to come, and those before them are answered in turn
+pub record Turn (answer : List ℕ → Outcome) (row : List ℕ) {S : Type 0} (steps : S → Option (ℕ × Bor (List ℕ)) → S → Type 0) (s : S) (index : ℕ) (parts : List (List ℕ)) : Type 0 where
+  pub comes : YieldsList steps (λ p. (p.0, p.1.now)) s (enumerate_from index parts)
+  pub turns : (next : Outcome) → in_turn answer 0 (parts_of row) next ≡ in_turn answer index parts next
+
+pub turn-first : (answer : List ℕ → Outcome) (row : List ℕ) {S : Type 0} {steps : S → Option (ℕ × Bor (List ℕ)) → S → Type 0} {s : S}
+    → YieldsList steps (λ p. (p.0, p.1.now)) s (enumerate_from 0 (slice_split (λ x. eqb x dot) row)) → Turn answer row steps s 0 (parts_of row)
+turn-first answer row {steps = steps} {s = s} y = record {
+  comes = subst (λ ps. YieldsList steps (λ p. (p.0, p.1.now)) s (enumerate_from 0 ps)) (split-parts row) y;
   turns = λ next. refl;
 }
 
-module _ {answer : List ℕ → Outcome} {row : List ℕ} {index from end : ℕ} (t : Turn answer row index from end) where
-  -- the part, with a dot after it
-  module _ (dotted : end < length row) where
-    more : parts_of (drop from row) ≡ take (end - from) (drop from row) ∷ parts_of (drop (end + 1) row)
-    more =
-        let k : first_dot (drop from row) ≡ end - from = omega (arith, t.ends) in
-        let i : first_dot (drop from row) < length (drop from row) = omega (arith, t.ends, length-drop from row) in
-        let n : from + suc (end - from) ≡ end + 1 = omega (arith, t.start) in
-        rw (k, drop-drop (suc (end - from)) from row, n) at (parts_more (drop from row) i)
+module _ {answer : List ℕ → Outcome} {row : List ℕ} {S : Type 0} {steps : S → Option (ℕ × Bor (List ℕ)) → S → Type 0} {s t : S} where
+  -- the part that comes
+  pub turn-part : (index : ℕ) (parts : List (List ℕ)) → Turn answer row steps s index parts
+      → {r : Option (ℕ × Bor (List ℕ))} {k : ℕ} {part : Bor (List ℕ)} → r ≡ Some (k, part) → steps s r t
+      → (others : List (List ℕ)) × (parts ≡ part.now ∷ others) × (k ≡ index) × YieldsList steps (λ p. (p.0, p.1.now)) t (enumerate_from (index + 1) others)
+  turn-part index [] u {k = k} {part = part} is step = absurd (u.comes.runs (k, part) t (subst (λ o. steps s o t) is step))
+  turn-part index (first ∷ others) u {k = k} {part = part} is step =
+      let m = u.comes.runs.1 (k, part) t (subst (λ o. steps s o t) is step) in
+      (others, sym (ap (λ p. p.1 ∷ others) m.0), ap (λ p. p.0) m.0, record { runs = m.1 })
 
-    pub left-more : (value : List ℕ → List ℕ) → left_from value row from ≡ value (take (end - from) (drop from row)) ++ (dot ∷ left_from value row (end + 1))
-    left-more value = rw more (joined-more value (take (end - from) (drop from row)) (drop (end + 1) row))
+  -- no part comes any more
+  pub turn-none : (index : ℕ) (parts : List (List ℕ)) → Turn answer row steps s index parts
+      → {r : Option (ℕ × Bor (List ℕ))} → r ≡ None → steps s r t → parts ≡ []
+  turn-none index [] u is step = refl
+  turn-none index (first ∷ others) u is step = absurd (u.comes.runs.0 t (subst (λ o. steps s o t) is step))
 
-    -- its refusal is that of all
-    pub turn-stops : {count number position : ℕ} (last next : Outcome) → last ≡ done count
-        → and_then (λ _. index) (answer (take (end - from) (drop from row))) last ≡ refused number position → in_turn answer 0 (parts_of row) next ≡ refused number position
-    unfolding in_turn
-    turn-stops last next l e = t.turns next ∙ rw more (refusal-kept (λ _. index) _ last _ l e)
+module _ {answer : List ℕ → Outcome} {row : List ℕ} {S : Type 0} {steps : S → Option (ℕ × Bor (List ℕ)) → S → Type 0} {s : S} {index : ℕ} {parts : List (List ℕ)} (u : Turn answer row steps s index parts)
+    (part : List ℕ) (others : List (List ℕ)) (is : parts ≡ part ∷ others) where
+  -- the refusal of the part that comes is that of all
+  pub turn-stops : {count number position : ℕ} (last next : Outcome) → last ≡ done count
+      → and_then (λ _. index) (answer part) last ≡ refused number position → in_turn answer 0 (parts_of row) next ≡ refused number position
+  unfolding in_turn
+  turn-stops last next l e = u.turns next ∙ rw is (refusal-kept (λ _. index) _ last _ l e)
 
-    -- if it is done, the next is at its turn
-    pub turn_more : {count : ℕ} → answer (take (end - from) (drop from row)) ≡ done count → (next : ℕ) → next ≡ end + 1 + first_dot (drop (end + 1) row)
-        → Turn answer row (index + 1) (end + 1) next
-    unfolding in_turn and_then
-    turn_more e next is = record {
-      start = omega arith;
-      inside = omega (arith, first-dot-le (drop (end + 1) row), length-drop (end + 1) row);
-      few = omega (arith, t.few, t.start);
-      ends = is;
-      turns = λ other. t.turns other ∙ rw (more, e, add-one index);
-    }
-
-  -- the last part
-  module _ (last : length row ≤ end) where
-    only : parts_of (drop from row) ≡ drop from row ∷ []
-    only = parts_last (drop from row) (omega (arith, t.ends, length-drop from row))
-
-    pub left-last : (value : List ℕ → List ℕ) → left_from value row from ≡ value (drop from row) ++ []
-    unfolding joined after_dots
-    left-last value = rw only
-
-    pub turn_last : (next : Outcome) → in_turn answer 0 (parts_of row) next ≡ and_then (λ _. index) (answer (drop from row)) next
-    unfolding in_turn
-    turn_last next = t.turns next ∙ rw only
+  -- if it is done, the next is at its turn
+  pub turn_more : {count : ℕ} → answer part ≡ done count → {t : S} → YieldsList steps (λ p. (p.0, p.1.now)) t (enumerate_from (index + 1) others)
+      → Turn answer row steps t (index + 1) others
+  unfolding in_turn and_then
+  turn_more e y = record {
+    comes = y;
+    turns = λ other. u.turns other ∙ rw (is, e, add-one index);
+  }

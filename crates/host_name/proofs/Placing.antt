@@ -19,8 +19,8 @@ pub capped-within : (count : ℕ) → count ≤ 253 → capped count ≡ count
 unfolding capped
 capped-within count h = rw (le-ltb 253 count h)
 
-pub capped-low : (count : ℕ) → capped count ≤ 254
-capped-low count = by-lt 253 count (λ h. omega (arith, capped-over count h)) (λ h. omega (arith, capped-within count h))
+pub capped-kept : (count : ℕ) → count ≤ 254 → capped count ≡ count
+capped-kept count low = by-lt 253 count (λ h. capped-over count h ∙ omega (arith, h, low)) (λ h. capped-within count h)
 
 -- of the values, those left are still to be stored from the index at on; or all of them are more than 253
 pub data Placing (values old now : List ℕ) (at : ℕ) (left : List ℕ) : Type 0 where
@@ -30,7 +30,6 @@ pub data Placing (values old now : List ℕ) (at : ℕ) (left : List ℕ) : Type
 pub placing-all : (old values : List ℕ) → Placing values old old 0 values
 placing-all old values = fits (omega arith) (storing-all old values)
 
--- the index is at most 254
 pub placing-low : {values old now : List ℕ} {at : ℕ} {left : List ℕ} → Placing values old now at left → at ≤ 254
 placing-low (fits low s) = omega arith
 placing-low (over is long) = omega arith
@@ -47,18 +46,8 @@ placing-more {values} {old} {now} {at} {left} (fits low s) piece rest e later ne
 placing-more {values} {old} {now} {at} {left} (over a long) piece rest e later next m is = over (is ∙ capped-over (at + length piece) (omega arith)) long
 
 -- with none left, the index is the count of all, and, if that is at most 253, all are in the buffer
-placing-none : {values old now : List ℕ} {at : ℕ} → Placing values old now at [] → 253 ≤ length old → (at ≡ capped (length values)) × (at ≤ 253 → take at now ≡ values)
+pub placing-none : {values old now : List ℕ} {at : ℕ} → Placing values old now at [] → 253 ≤ length old → (at ≡ capped (length values)) × (at ≤ 253 → take at now ≡ values)
 placing-none {values} {old} {now} {at} (fits low s) room =
     let n : at ≡ length values = omega (arith, s.count) in
     (n ∙ sym (capped-within (length values) (omega arith)), λ h. front-is at values (drop (length values) old) now n (storing-none old values now at [] s refl (omega arith)).1)
 placing-none {values} {old} {now} {at} (over is long) room = (is ∙ sym (capped-over (length values) long), λ h. absurd (omega arith))
-
--- the last piece
-module _ {values old now : List ℕ} {at : ℕ} {left : List ℕ} (p : Placing values old now at left) (piece : List ℕ) (is : left ≡ piece ++ []) (room : 253 ≤ length old) where
-  pub placing-count : capped (at + length piece) ≡ capped (length values)
-  placing-count = (placing-none (placing-more p piece [] is (sets now at piece) _ refl refl) room).0
-
-  pub placing-end : (later : List ℕ) → later ≡ sets now at piece → (n : ℕ) → capped (length values) ≡ n → n ≤ 253 → take n later ≡ values
-  placing-end later stored n e h =
-      let c : capped (at + length piece) ≡ n = placing-count ∙ e in
-      rw c at (placing-none (placing-more p piece [] is later _ stored refl) room).1 h

@@ -23,7 +23,8 @@ use Rattle.base32.proofs.RoundTrip.{written-inside}
 use Rattle.lace_encoding.specs.Encoding.{octets_of, label_of}
 use Rattle.host_name.specs.Parts.{dot, has_dot, parts_of}
 use Rattle.host_name.specs.Answer.{part_label, name_of}
-use Rattle.host_name_facts.proofs.Dots.{dot-later, at-no-dot}
+use Rattle.host_name.proofs.Parts.{dot-later}
+use Rattle.host_name_facts.proofs.Dots.{at-no-dot}
 use Rattle.host_name_facts.proofs.Parts.{parts-dotless, parts-mapped, dotless-mapped}
 
 -- the dot is no LDH and no character of LACE

@@ -6,9 +6,9 @@ use mathlib.Core.List.{List, [], ◌∷◌, ◌++◌, map}
 use lib.Dec.{eqb}
 use Rattle.basis.proofs.Tests.{cases}
 use Rattle.host_name.specs.Parts.{dot, has_dot, join_first, parts_of, after_dots, joined}
-use Rattle.host_name.proofs.Parts.{some-parts}
+use Rattle.host_name.proofs.Parts.{some-parts, empty-no-dot, dot-later}
 use Rattle.host_name_facts.specs.Dotless.{Dotless}
-use Rattle.host_name_facts.proofs.Dots.{empty-no-dot, dot-later, no-dot-first, no-dot-later}
+use Rattle.host_name_facts.proofs.Dots.{no-dot-first, no-dot-later}
 
 -- an element that is no dot before the first part leaves parts without a dot
 dotless-first : (x : ℕ) (parts : List (List ℕ)) → eqb x dot ≡ false → Dotless parts → Dotless (join_first x parts)

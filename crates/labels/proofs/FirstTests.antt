@@ -7,9 +7,10 @@ use lib.ListN.{length}
 use borrow.Author.Tests.{ltb-false, eqb-false}
 use native.Mathlib.Omega.{arith}
 use Rattle.basis.specs.Rows.{at}
-use Rattle.basis.specs.Outcome.{Outcome, done, refused, number_of, and_then}
+use Rattle.std.proofs.Common.{Result, Ok, Err}
+use Rattle.basis.specs.Outcome.{Outcome, done, refused, number_of, outcome_by, and_then}
 use Rattle.basis.specs.Causes.{Cause, whole, Settles}
-use Rattle.basis.specs.declared.ErrorCode.{ErrorCode}
+use Rattle.basis.specs.declared.Refusal.{Refusal}
 use Rattle.basis.proofs.Tests.{ltb_iff, eqb-iff, first-le}
 use Rattle.basis.proofs.Outcome.{stop-below, pass_below, stop-equal, pass-equal, passed}
 use Rattle.basis.proofs.Causes.{settle-whole, settle-first}
@@ -17,17 +18,15 @@ use Rattle.utf16.specs.Points.{is_point, first_not_point}
 use Rattle.labels.specs.Tests.{text_tests, label_tests}
 use Rattle.labels.specs.Answer.{check_outcome}
 use Rattle.labels.specs.Causes.{text_causes, label_causes}
-use Rattle.labels.specs.declared.Check.{Check}
-use Rattle.labels.specs.declared.Check.TheVariants.{Passed, Error}
 
 -- tests that a check answers for: by its answer they refuse whatever follows, or what follows decides
-module _ (tests : Outcome → Outcome) (check : Check) (means : (next : Outcome) → and_then (λ p. p) (check_outcome check) next ≡ tests next) (next : Outcome) where
-  pub check-stops : (code : ErrorCode) (position : ℕ) → check ≡ Error code position → tests next ≡ refused (number_of code) position
-  unfolding and_then check_outcome
-  check-stops code position e = sym (means next) ∙ ap (λ c. and_then (λ p. p) (check_outcome c) next) e
+module _ (tests : Outcome → Outcome) (check : Result (Unit {0}) Refusal) (means : (next : Outcome) → and_then (λ p. p) (check_outcome check) next ≡ tests next) (next : Outcome) where
+  pub check-stops : {refusal : Refusal} → check ≡ Err refusal → tests next ≡ refused (number_of refusal.code) refusal.position
+  unfolding and_then outcome_by
+  check-stops e = sym (means next) ∙ ap (λ c. and_then (λ p. p) (check_outcome c) next) e
 
-  pub check-passes : check ≡ Passed → tests next ≡ next
-  unfolding and_then check_outcome
+  pub check-passes : {u : Unit {0}} → check ≡ Ok u → tests next ≡ next
+  unfolding and_then outcome_by
   check-passes e = sym (means next) ∙ ap (λ c. and_then (λ p. p) (check_outcome c) next) e
 
 -- what a text has that passes them, and a label
@@ -74,7 +73,7 @@ label-long capacity bytes next room long =
     pass_below _ _ _ _ _ room ∙ pass-equal _ _ _ _ _ some ∙ stop-below _ _ _ _ _ long
 
 -- so it is with what was checked
-module _ (check : Check) (is : check ≡ Passed) where
+module _ (check : Result (Unit {0}) Refusal) {u : Unit {0}} (is : check ≡ Ok u) where
   pub text-checked : (capacity : ℕ) (t : List ℕ) → ((next : Outcome) → and_then (λ p. p) (check_outcome check) next ≡ text_tests capacity t next) → TextPassed capacity t
   text-checked capacity t means = text-passed capacity t 0 (done 0) (check-passes (text_tests capacity t) check means (done 0) is)
 

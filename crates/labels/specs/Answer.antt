@@ -1,9 +1,8 @@
 -- What a check says, as an outcome.
-use Rattle.basis.specs.Outcome.{Outcome, done, refused, number_of}
-use Rattle.labels.specs.declared.Check.{Check}
-use Rattle.labels.specs.declared.Check.TheVariants.{Passed, Error}
+use Rattle.std.specs.Prelude.{Result}
+use Rattle.basis.specs.Outcome.{Outcome, outcome_by}
+use Rattle.basis.specs.declared.Refusal.{Refusal}
 
 -- done, with nothing to count, or refused with the error's number and position
-unfoldable pub check_outcome : Check → Outcome
-check_outcome Passed = done 0
-check_outcome (Error code position) = refused (number_of code) position
+abbrev pub check_outcome : Result (Unit {0}) Refusal → Outcome
+check_outcome answer = outcome_by (λ _. 0) answer

@@ -7,27 +7,25 @@ use native.Mathlib.Numerals.{add-one}
 use native.Mathlib.Omega.{arith}
 use lib.Dec.{eqb, ltb, leb}
 use lib.ListN.{length, take, drop, length-drop, drop_of_length-le}
-use lib.Seq.{sets, drop-cons}
+use lib.Seq.{drop-cons}
 use borrow.Author.Tests.{le-ltb, eq-eqb, ne_eqb, eqb-true, eqb-false, not-true, not-false}
+use Rattle.std.proofs.Common.{None, Result, Ok, Err}
 use Rattle.basis.specs.Tests.{both}
 use Rattle.basis.specs.Rows.{at}
-use Rattle.basis.specs.Outcome.{Outcome, done, refused, refused_if, number_of, bytes_outcome, buffer_after}
+use Rattle.basis.specs.Outcome.{Outcome, done, refused, refused_if, number_of, outcome_by, bytes_outcome, buffer_after}
 use Rattle.basis.specs.declared.ErrorCode.{ErrorCode}
-use Rattle.basis.specs.declared.ErrorCode.TheVariants.{NotWellFormed, OutsideAlphabet}
+use Rattle.basis.specs.declared.ErrorCode.TheVariants.{OutsideAlphabet}
 use Rattle.basis.specs.declared.ByteCount.{ByteCount}
-use Rattle.basis.specs.declared.BytesAnswer.{BytesAnswer}
-use Rattle.basis.specs.declared.BytesAnswer.TheVariants as bytes
+use Rattle.basis.specs.declared.Refusal.{Refusal}
 use Rattle.basis.proofs.Tests.{cases, first-le}
-use Rattle.basis.proofs.Stores.{Storing, storing-more, storing-none}
+use Rattle.basis.proofs.Stores.{Storing, Stored, storing-piece, storing-none}
 use Rattle.basis.proofs.Parts.{part-is, front-is, front_fits}
 use Rattle.basis.proofs.Outcome.{pass-given, handed-leaves, number-tells}
 use Rattle.ascii.specs.Prefix.{has_prefix, after_prefix}
 use Rattle.ascii.specs.Ldh.{is_host_label}
 use Rattle.ascii.proofs.Prefix.{prefix-long}
 use Rattle.utf16.specs.Units.{to_points, unpaired_at, first_unpaired}
-use Rattle.utf16.specs.Answer.{points_outcome, to_points_outcome}
-use Rattle.utf16.specs.declared.PointsAnswer.{PointsAnswer}
-use Rattle.utf16.specs.declared.PointsAnswer.TheVariants.{Error}
+use Rattle.utf16.specs.Answer.{to_points_outcome}
 use Rattle.utf16.proofs.Refusals.{all_done}
 use Rattle.labels.proofs.FirstTests.{LabelPassed, label-passes}
 use Rattle.utf16.specs.Bytes.{units_of_bytes}
@@ -54,21 +52,21 @@ prefix-fits l has e n = prefix-long prefix l (sym e ∙ not-false has n)
 
 -- the loop that tests runs: what is left are runs exactly when all are
 
-module _ (os : List ℕ) (place : Place) (i : ℕ) (left : are_runs (Count 256) os ≡ are_runs place (drop i os)) where
-  pub runs-end : length os ≤ i → (may : Bool) → may ≡ may_end place → may ≡ are_runs (Count 256) os
+module _ (os : List ℕ) (place : Place) (i : ℕ) (left : are_runs (Count None) os ≡ are_runs place (drop i os)) where
+  pub runs-end : length os ≤ i → (may : Bool) → may ≡ may_end place → may ≡ are_runs (Count None) os
   unfolding are_runs
   runs-end h may e = e ∙ sym (left ∙ ap (are_runs place) (drop_of_length-le os h))
 
   module _ (h : i < length os) (may : Bool) (e : may ≡ may_stand place (at os i)) where
-    here : are_runs (Count 256) os ≡ both may (are_runs (place_after place (at os i)) (drop (i + 1) os))
+    here : are_runs (Count None) os ≡ both may (are_runs (place_after place (at os i)) (drop (i + 1) os))
     unfolding are_runs
     here = left ∙ rw (drop-cons os i 0, add-one, e)
 
-    pub runs-stop : not may ≡ true → false ≡ are_runs (Count 256) os
+    pub runs-stop : not may ≡ true → false ≡ are_runs (Count None) os
     unfolding both
     runs-stop n = sym (here ∙ rw (not-true may n))
 
-    pub runs-turn : not may ≡ false → (next : Place) → next ≡ place_after place (at os i) → are_runs (Count 256) os ≡ are_runs next (drop (i + 1) os)
+    pub runs-turn : not may ≡ false → (next : Place) → next ≡ place_after place (at os i) → are_runs (Count None) os ≡ are_runs next (drop (i + 1) os)
     unfolding both
     runs-turn n next q = here ∙ rw (not-false may n, q)
 
@@ -95,31 +93,29 @@ run-units-le place (x ∷ os) = omega (arith, unit-le place x (units_from (place
 
 -- the loops that store units: the octets from an index on
 
-module _ (old os now : List ℕ) (place : Place) (k i : ℕ) (s : Storing old (units_from (Count 256) os) now k (units_from place (drop i os))) where
-  pub run-units-turn : i < length os → (more : List ℕ) (next : ℕ) (then : Place) → more ≡ sets now k (unit_at place (at os i) [])
-      → next ≡ k + length (unit_at place (at os i) []) → then ≡ place_after place (at os i)
-      → Storing old (units_from (Count 256) os) more next (units_from then (drop (i + 1) os))
+module _ (old os now : List ℕ) (place : Place) (k i : ℕ) (s : Storing old (units_from (Count None) os) now k (units_from place (drop i os))) where
+  pub run-units-turn : i < length os → {more : List ℕ} {next : ℕ} (then : Place) → Stored now k (unit_at place (at os i) []) more next → then ≡ place_after place (at os i)
+      → Storing old (units_from (Count None) os) more next (units_from then (drop (i + 1) os))
   unfolding units_from
-  run-units-turn h more next then m n p =
-      storing-more _ _ _ _ _ s (unit_at place (at os i) []) _ (rw (drop-cons os i 0, add-one, p) (unit-before place (at os i) _)) more next m n
+  run-units-turn h then t p = storing-piece s (rw (drop-cons os i 0, add-one, p) (unit-before place (at os i) _)) t
 
   pub run-units-end : length os ≤ i → length os ≤ length old
-      → (k ≡ length (units_from (Count 256) os)) × (now ≡ units_from (Count 256) os ++ drop (length (units_from (Count 256) os)) old)
+      → (k ≡ length (units_from (Count None) os)) × (now ≡ units_from (Count None) os ++ drop (length (units_from (Count None) os)) old)
   unfolding units_from
-  run-units-end h l = storing-none _ _ _ _ _ s (rw (drop_of_length-le os h)) (omega (arith, run-units-le (Count 256) os))
+  run-units-end h l = storing-none _ _ _ _ _ s (rw (drop_of_length-le os h)) (omega (arith, run-units-le (Count None) os))
 
 -- the units of octets, and what the octets stand for
 
 -- so many values are at the front of the buffer that was old
-abbrev Stored : List ℕ → List ℕ → List ℕ → ℕ → Type 0
-Stored values old now n = (n ≡ length values) × (now ≡ values ++ drop (length values) old)
+abbrev Front : List ℕ → List ℕ → List ℕ → ℕ → Type 0
+Front values old now n = (n ≡ length values) × (now ≡ values ++ drop (length values) old)
 
 module _ (os : List ℕ) where
   units-ff : at os 0 ≡ 255 → units_of os ≡ units_of_bytes (drop 1 os)
   unfolding units_of
   units-ff ff = rw (eq-eqb _ _ ff)
 
-  units-runs : (at os 0 ≡ 255 → ⊥) → units_of os ≡ units_from (Count 256) os
+  units-runs : (at os 0 ≡ 255 → ⊥) → units_of os ≡ units_from (Count None) os
   unfolding units_of
   units-runs other = rw (ne_eqb _ _ other)
 
@@ -127,9 +123,9 @@ module _ (os : List ℕ) where
   units-le =
       cases (eqb (at os 0) 255)
       (λ e. rw (units-ff (eqb-true _ _ e)) (omega (arith, length-units_of_bytes (drop 1 os), length-drop 1 os)))
-      (λ e. rw (units-runs (eqb-false _ _ e)) (run-units-le (Count 256) os))
+      (λ e. rw (units-runs (eqb-false _ _ e)) (run-units-le (Count None) os))
 
-  pub stored-none : length os ≡ 0 → (old : List ℕ) → Stored (units_of os) old old 0
+  pub stored-none : length os ≡ 0 → (old : List ℕ) → Front (units_of os) old old 0
   stored-none e old = let n = units-le in rw (nothing (units_of os) (omega arith)) (refl, refl)
     where
       nothing : (xs : List ℕ) → length xs ≡ 0 → xs ≡ []
@@ -137,14 +133,14 @@ module _ (os : List ℕ) where
       nothing (x ∷ xs) e = absurd (omega arith)
 
   module _ (old now : List ℕ) (n : ℕ) where
-    pub stored-ff : at os 0 ≡ 255 → Stored (units_of_bytes (take (length os - 1) (drop 1 os))) old now n → Stored (units_of os) old now n
+    pub stored-ff : at os 0 ≡ 255 → Front (units_of_bytes (take (length os - 1) (drop 1 os))) old now n → Front (units_of os) old now n
     stored-ff ff s = rw (units-ff ff) (rw (part-is 1 os) at s)
 
-    pub stored-runs : (at os 0 ≡ 255 → ⊥) → Stored (units_from (Count 256) os) old now n → Stored (units_of os) old now n
+    pub stored-runs : (at os 0 ≡ 255 → ⊥) → Front (units_from (Count None) os) old now n → Front (units_of os) old now n
     stored-runs other s = rw (units-runs other) s
 
 -- the units at the front of a row
-module _ (os old row : List ℕ) (n : ℕ) (s : Stored (units_of os) old row n) where
+module _ (os old row : List ℕ) (n : ℕ) (s : Front (units_of os) old row n) where
   pub units-front : take n row ≡ units_of os
   units-front = front-is n (units_of os) (drop (length (units_of os)) old) row s.0 s.1
 
@@ -169,7 +165,7 @@ module _ (os us : List ℕ) (units_is : us ≡ units_of os) (r : ℕ) (runs_is :
     stand-ff e = rw (eq-eqb _ _ ff, eq-eqb _ _ e, runs_is, units_is)
 
   -- or it does not
-  module _ (other : at os 0 ≡ 255 → ⊥) (runs : Bool) (are : runs ≡ are_runs (Count 256) os) where
+  module _ (other : at os 0 ≡ 255 → ⊥) (runs : Bool) (are : runs ≡ are_runs (Count None) os) where
     pub stand-not : not runs ≡ true → false ≡ stand_for_units os
     unfolding stand_for_units both
     stand-not n = rw (ne_eqb _ _ other, ← are, not-true runs n)
@@ -179,7 +175,7 @@ module _ (os us : List ℕ) (units_is : us ≡ units_of os) (r : ℕ) (runs_is :
     stand-runs n = rw (ne_eqb _ _ other, ← are, not-false runs n, runs_is, units_is)
 
 -- what is found of the units at the front of a row
-module _ (os old row : List ℕ) (n : ℕ) (s : Stored (units_of os) old row n) where
+module _ (os old row : List ℕ) (n : ℕ) (s : Front (units_of os) old row n) where
   -- by the first unpaired surrogate
   module _ (bad : ℕ) (bad_is : bad ≡ first_unpaired (take n row)) where
     bad-is : bad ≡ first_unpaired (units_of os)
@@ -209,35 +205,34 @@ module _ (os old row : List ℕ) (n : ℕ) (s : Stored (units_of os) old row n) 
   host-label-is host e = e ∙ ap is_host_label (units-front os old row n s)
 
 -- every error of the Base32 reader but that of a byte outside the alphabet
-pub other-error : (code : ErrorCode) (position : ℕ) → (code ≡ OutsideAlphabet → ⊥) → (r : PointsAnswer) → r ≡ Error NotWellFormed 0
-    → points_outcome r ≡ error_after_prefix (number_of code) position
-unfolding points_outcome error_after_prefix
-other-error code position o r e =
+pub other-error : (code : ErrorCode) (position : ℕ) → (code ≡ OutsideAlphabet → ⊥) → refused 9 0 ≡ error_after_prefix (number_of code) position
+unfolding error_after_prefix
+other-error code position o =
     let t : number_of code ≡ 7 → ⊥ = λ q. o (number-tells code OutsideAlphabet q) in
-    ap points_outcome e ∙ sym (rw (ne_eqb (number_of code) 7 t))
+    sym (rw (ne_eqb (number_of code) 7 t))
 
 -- what follows the prefix, as the Base32 reader sees it
 abbrev passed : List ℕ → List ℕ
 passed l = take (length l - 4) (drop 4 l)
 
 -- its answer, for a label of at most 63 bytes
-module _ (l : List ℕ) (short : length l ≤ 63) (answer : BytesAnswer) (answer_is : bytes_outcome answer ≡ base32.decode_outcome (passed l) 36) where
+module _ (l : List ℕ) (short : length l ≤ 63) (answer : Result ByteCount Refusal) (answer_is : bytes_outcome answer ≡ base32.decode_outcome (passed l) 36) where
   read : base32.decode_outcome (after_prefix prefix l) 36 ≡ bytes_outcome answer
   read = sym (answer_is ∙ ap (λ (cs : List ℕ). base32.decode_outcome cs 36) (part-is 4 l))
 
-  -- an error
-  module _ (code : ErrorCode) (position : ℕ) (e : answer ≡ bytes.Error code position) where
-    error-is : base32.decode_outcome (after_prefix prefix l) 36 ≡ refused (number_of code) position
-    unfolding bytes_outcome
+  -- a refusal
+  module _ (refusal : Refusal) (e : answer ≡ Err refusal) where
+    error-is : base32.decode_outcome (after_prefix prefix l) 36 ≡ refused (number_of refusal.code) refusal.position
+    unfolding outcome_by
     error-is = read ∙ ap bytes_outcome e
 
-    pub position-small : position < 64
-    position-small = omega (arith, decode-position (after_prefix prefix l) 36 (number_of code) position error-is, length-drop 4 l)
+    pub position-small : refusal.position < 64
+    position-small = omega (arith, decode-position (after_prefix prefix l) 36 (number_of refusal.code) refusal.position error-is, length-drop 4 l)
 
   -- octets
-  module _ (count : ByteCount) (e : answer ≡ bytes.Bytes count) where
+  module _ (count : ByteCount) (e : answer ≡ Ok count) where
     count-is : base32.decode_outcome (after_prefix prefix l) 36 ≡ done count.0
-    unfolding bytes_outcome
+    unfolding outcome_by
     count-is = read ∙ ap bytes_outcome e
 
     count-octets : count.0 ≡ octet_count (length (after_prefix prefix l))
@@ -279,25 +274,24 @@ after-prefix l short =
 
 -- the returns of `decode` for a label of 1 to 63 bytes that begins with the prefix, by the Base32 reader's answer
 module _ (buffer l : List ℕ) (checked : LabelPassed (length buffer) (length l)) (has : Bool) (has_is : has ≡ has_prefix prefix l) (yes : not has ≡ false)
-    (answer : BytesAnswer) (answer_is : bytes_outcome answer ≡ base32.decode_outcome (passed l) 36) where
-  abbrev Answered : PointsAnswer → List ℕ → Type 0
-  Answered r left = (points_outcome r ≡ decode_outcome is_host_label (length buffer) l) × (left ≡ buffer_after (decode_outcome is_host_label (length buffer) l) (text_of l) buffer)
+    (answer : Result ByteCount Refusal) (answer_is : bytes_outcome answer ≡ base32.decode_outcome (passed l) 36) where
+  abbrev Answered : Outcome → List ℕ → Type 0
+  Answered r left = (r ≡ decode_outcome is_host_label (length buffer) l) × (left ≡ buffer_after (decode_outcome is_host_label (length buffer) l) (text_of l) buffer)
 
   decode-after : decode_outcome is_host_label (length buffer) l ≡ after_reading (base32.decode_outcome (after_prefix prefix l) 36) (octets_outcome (label_octets l))
   unfolding decode_outcome
   decode-after = label-passes _ _ _ checked ∙ pass-given _ _ _ _ _ (ap not has_is) yes ∙ after-prefix l checked.short
 
-  pub answer-error : (code : ErrorCode) (position : ℕ) → answer ≡ bytes.Error code position → (r : PointsAnswer) → points_outcome r ≡ error_after_prefix (number_of code) position
-      → Answered r buffer
+  pub answer-error : (refusal : Refusal) → answer ≡ Err refusal → (r : Outcome) → r ≡ error_after_prefix (number_of refusal.code) refusal.position → Answered r buffer
   unfolding after_reading buffer_after error_after_prefix
-  answer-error code position e r a =
-      let o : decode_outcome is_host_label (length buffer) l ≡ error_after_prefix (number_of code) position = decode-after ∙ rw (error-is l checked.short answer answer_is code position e) in
-      (a ∙ sym o, rw o (cases (eqb (number_of code) 7) (λ t. rw t) (λ t. rw t)))
+  answer-error refusal e r a =
+      let o : decode_outcome is_host_label (length buffer) l ≡ error_after_prefix (number_of refusal.code) refusal.position = decode-after ∙ rw (error-is l checked.short answer answer_is refusal e) in
+      (a ∙ sym o, rw o (cases (eqb (number_of refusal.code) 7) (λ t. rw t) (λ t. rw t)))
 
-  pub answer-octets : (count : ByteCount) → answer ≡ bytes.Bytes count → (row old : List ℕ)
+  pub answer-octets : (count : ByteCount) → answer ≡ Ok count → (row old : List ℕ)
       → row ≡ buffer_after (base32.decode_outcome (passed l) 36) (to_octets (values_of lace (passed l))) old
-      → (r : PointsAnswer) (left : List ℕ)
-      → (points_outcome r ≡ octets_outcome (take count.0 row)) × (left ≡ buffer_after (octets_outcome (take count.0 row)) (to_points (units_of (take count.0 row))) buffer)
+      → (r : Outcome) (left : List ℕ)
+      → (r ≡ octets_outcome (take count.0 row)) × (left ≡ buffer_after (octets_outcome (take count.0 row)) (to_points (units_of (take count.0 row))) buffer)
       → Answered r left
   unfolding after_reading text_of label_units
   answer-octets count e row old row_is r left a =

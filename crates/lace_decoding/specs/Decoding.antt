@@ -1,5 +1,6 @@
 -- Decoding: the units of octets, read one by one, and the text of a label.
-use Rattle.std.specs.Prelude.{ℕ, ◌-◌, ◌*◌, ◌%◌, Bool, true, false, not, List, [], ◌∷◌, eqb, ltb, leb, length, drop}
+use Rattle.std.specs.Prelude.{ℕ, ◌-◌, ◌*◌, ◌%◌, Bool, true, false, not, None, Some, List, [], ◌∷◌, eqb, ltb, leb, length, drop}
+use Rattle.std.specs.Option.{is_some, option_eq}
 use Rattle.basis.specs.Tests.{pick, both}
 use Rattle.basis.specs.Rows.{at}
 use Rattle.ascii.specs.Prefix.{after_prefix}
@@ -14,24 +15,24 @@ use Rattle.lace_format.specs.Octets.{unit_of, run_count}
 use Rattle.lace_decoding.specs.declared.decoding.Place.{Place}
 use Rattle.lace_decoding.specs.declared.decoding.Place.TheVariants.{Count, High, Low}
 
--- A place among runs: before a count, after a run of this high octet (256 where none was); before the high octet of a run of
+-- A place among runs: before a count, after a run of this high octet, if there was one; before the high octet of a run of
 -- so many; before a low octet, with so many to come under this high octet.
 
 -- the octet may be there: a count is 1 or more, a high octet is not that of the run before
 unfoldable pub may_stand : Place → ℕ → Bool
 may_stand (Count previous) x = not (eqb x 0)
-may_stand (High previous count) x = not (eqb x previous)
+may_stand (High previous count) x = not (option_eq eqb previous (Some x))
 may_stand (Low left high) x = true
 
 -- the place after the octet
 unfoldable pub place_after : Place → ℕ → Place
 place_after (Count previous) x = High previous x
 place_after (High previous count) x = Low count x
-place_after (Low left high) x = pick (ltb left 2) (Count high) (Low (left - 1) high)
+place_after (Low left high) x = pick (ltb left 2) (Count (Some high)) (Low (left - 1) high)
 
 -- the runs may end there: after a run
 unfoldable pub may_end : Place → Bool
-may_end (Count previous) = not (eqb previous 256)
+may_end (Count previous) = is_some previous
 may_end (High previous count) = false
 may_end (Low left high) = false
 
@@ -57,14 +58,14 @@ begins_ff octets = eqb (at octets 0) 0xff
 
 -- the units of octets: after FF all units, high octet first, else runs
 unfoldable pub units_of : List ℕ → List ℕ
-units_of octets = pick (begins_ff octets) (units_of_bytes (drop 1 octets)) (units_from (Count 256) octets)
+units_of octets = pick (begins_ff octets) (units_of_bytes (drop 1 octets)) (units_from (Count None) octets)
 
 -- the octets stand for units: after FF one or more whole units in more runs than half their number, else runs, at most so many
 unfoldable pub stand_for_units : List ℕ → Bool
 stand_for_units octets =
     pick (begins_ff octets)
     (both (eqb (length octets % 2) 1) (ltb (length (units_of octets)) (2 * run_count (units_of octets))))
-    (both (are_runs (Count 256) octets) (leb (2 * run_count (units_of octets)) (length (units_of octets))))
+    (both (are_runs (Count None) octets) (leb (2 * run_count (units_of octets)) (length (units_of octets))))
 
 -- the octets and the units of a label
 unfoldable pub label_octets : List ℕ → List ℕ

@@ -1,22 +1,22 @@
 // Octets as units, read one by one, and units as a text.
-ghost use Rattle.std.specs.Prelude.{◌≡◌, [], ◌++◌, ◌+◌, ◌<◌, ◌≤◌, length, drop};
-ghost use Rattle.std.proofs.lemmas.List.Edits.{sets};
-ghost use Rattle.basis.specs.Outcome.{number_of, buffer_after};
+ghost use Rattle.std.specs.Prelude.{None, ◌≡◌, [], ◌++◌, ◌+◌, ◌<◌, ◌≤◌, length, drop};
+ghost use Rattle.basis.specs.Internal.{Stored};
+ghost use Rattle.basis.specs.Outcome.{refused, number_of, buffer_after};
 ghost use Rattle.utf16.specs.Units.{to_points};
 ghost use Rattle.utf16.specs.Answer.{points_outcome};
 ghost use Rattle.utf16.specs.Bytes.{units_of_bytes};
 ghost use Rattle.lace_decoding.specs.Decoding.{may_stand, place_after, may_end, unit_at, are_runs, units_from, units_of, stand_for_units};
 ghost use Rattle.lace_decoding.specs.Internal.{octets_outcome, error_after_prefix};
 
-use basis::ErrorCode;
-use utf16::{PointsAnswer, UnitCount, UnitsAnswer};
+use basis::{ErrorCode, Refusal};
+use utf16::{PointCount, UnitCount};
 
-// A place among runs: before a count, after a run of this high octet (256 where none was); before the high octet of a run of so
+// A place among runs: before a count, after a run of this high octet, if there was one; before the high octet of a run of so
 // many; before a low octet, with so many to come under this high octet.
 #[derive(Clone, Copy)]
 pub enum Place {
-    Count(u16),
-    High(u16, u8),
+    Count(Option<u8>),
+    High(Option<u8>, u8),
     Low(u8, u8),
 }
 
@@ -26,7 +26,7 @@ fn may_stand(place: Place, octet: u8) -> bool
 {
     match place {
         Place::Count(_) => octet != 0,
-        Place::High(previous, _) => (octet as u16) != previous,
+        Place::High(previous, _) => previous != Some(octet),
         Place::Low(_, _) => true,
     }
 }
@@ -40,7 +40,7 @@ fn place_after(place: Place, octet: u8) -> Place
         Place::High(_, count) => Place::Low(count, octet),
         Place::Low(left, high) => {
             if left < 2 {
-                return Place::Count(high as u16);
+                return Place::Count(Some(high));
             }
             Place::Low(left - 1, high)
         }
@@ -52,7 +52,7 @@ fn may_end(place: Place) -> bool
     ensures { result ≡ may_end place }
 {
     match place {
-        Place::Count(previous) => previous != 256,
+        Place::Count(previous) => previous.is_some(),
         Place::High(_, _) => false,
         Place::Low(_, _) => false,
     }
@@ -60,17 +60,14 @@ fn may_end(place: Place) -> bool
 
 // Whether the octets are runs.
 fn are_runs(octets: &[u8]) -> bool
-    ensures { result ≡ are_runs (Place.Count 256) octets.now }
+    ensures { result ≡ are_runs (Place.Count None) octets.now }
 {
-    let mut place = Place::Count(256);
-    let mut i = 0;
-    while i < octets.len() {
-        let octet = octets[i];
+    let mut place = Place::Count(None);
+    for &octet in octets {
         if !may_stand(place, octet) {
             return false;
         }
         place = place_after(place, octet);
-        i += 1;
     }
     may_end(place)
 }
@@ -78,14 +75,13 @@ fn are_runs(octets: &[u8]) -> bool
 // Stores the unit that the octet completes, if it does, at an index, and answers the index after it.
 fn put_unit(place: Place, octet: u8, units: &mut [u16], at: usize) -> usize
     requires { at < length units.old }
-    ensures value { result ≡ at + length (unit_at place octet []) }
-    ensures units_after { units.new ≡ sets units.old at (unit_at place octet []) }
+    ensures { Stored units.old at (unit_at place octet []) units.new result }
 {
     match place {
         Place::Count(_) => at,
         Place::High(_, _) => at,
         Place::Low(_, high) => {
-            units[at] = (high as u16) * 256 + (octet as u16);
+            units[at] = u16::from_be_bytes([high, octet]);
             at + 1
         }
     }
@@ -94,17 +90,14 @@ fn put_unit(place: Place, octet: u8, units: &mut [u16], at: usize) -> usize
 // Writes the units of runs, and answers their count.
 fn put_run_units(octets: &[u8], units: &mut [u16]) -> usize
     requires { length octets.now ≤ length units.old }
-    ensures value { result ≡ length (units_from (Place.Count 256) octets.now) }
-    ensures units_after { units.new ≡ units_from (Place.Count 256) octets.now ++ drop (length (units_from (Place.Count 256) octets.now)) units.old }
+    ensures value { result ≡ length (units_from (Place.Count None) octets.now) }
+    ensures units_after { units.new ≡ units_from (Place.Count None) octets.now ++ drop (length (units_from (Place.Count None) octets.now)) units.old }
 {
-    let mut place = Place::Count(256);
+    let mut place = Place::Count(None);
     let mut at = 0;
-    let mut i = 0;
-    while i < octets.len() {
-        let octet = octets[i];
+    for &octet in octets {
         at = put_unit(place, octet, units, at);
         place = place_after(place, octet);
-        i += 1;
     }
     at
 }
@@ -117,14 +110,7 @@ fn put_unit_pairs(octets: &[u8], units: &mut [u16]) -> usize
     ensures units_after { units.new ≡ units_of_bytes octets.now ++ drop (length (units_of_bytes octets.now)) units.old }
 {
     let even = octets.len() - octets.len() % 2;
-    let answer = utf16::bytes::bytes_to_units(&octets[..even], units);
-    match answer {
-        UnitsAnswer::Units(count) => count.0,
-        UnitsAnswer::Error {
-            code: _,
-            position: _,
-        } => 0,
-    }
+    utf16::bytes::bytes_to_units(&octets[..even], units).map_or(0, |count| count.0)
 }
 
 // Writes the units of octets, and answers their count.
@@ -163,23 +149,24 @@ fn stand_for_units(octets: &[u8], units: &[u16]) -> bool
     twice <= units.len()
 }
 
-// The error of the Base32 reader on what follows the prefix: a byte outside the alphabet is at its index in the label.
-pub(crate) fn after_prefix_error(code: ErrorCode, position: usize) -> PointsAnswer
-    requires { position < 64 }
-    ensures { points_outcome result ≡ error_after_prefix (number_of code) position }
+// The refusal of the Base32 reader, of what follows the prefix, as that of the label: a byte outside the alphabet is at its index in the label.
+pub(crate) fn after_prefix(refusal: Refusal) -> Refusal
+    requires { refusal.position < 64 }
+    ensures { refused (number_of result.code) result.position ≡ error_after_prefix (number_of refusal.code) refusal.position }
 {
-    match code {
-        ErrorCode::OutsideAlphabet => utf16::points_error(ErrorCode::OutsideAlphabet, 4 + position),
-        _ => utf16::points_error(ErrorCode::NotWellFormed, 0),
+    match refusal.code {
+        ErrorCode::OutsideAlphabet => ErrorCode::OutsideAlphabet.at(4 + refusal.position),
+        _ => ErrorCode::NotWellFormed.at(0),
     }
 }
 
 // Reads the text of at most 36 octets.
-pub(crate) fn decode_octets(octets: &[u8], text: &mut [u32]) -> PointsAnswer
+pub(crate) fn decode_octets(octets: &[u8], text: &mut [u32]) -> Result<PointCount, Refusal>
     requires { (length octets.now ≤ 36) × (63 ≤ length text.old) }
     ensures result_value { points_outcome result ≡ octets_outcome octets.now }
     ensures text_after { text.new ≡ buffer_after (octets_outcome octets.now) (to_points (units_of octets.now)) text.old }
 {
+    // Fixed memory, so a buffer for the most units there can be, and their count.
     let mut units = [0u16; 36];
     let n = put_units(octets, &mut units);
     let row = &units[..n];
@@ -187,13 +174,13 @@ pub(crate) fn decode_octets(octets: &[u8], text: &mut [u32]) -> PointsAnswer
     let unpaired = surrogates::units::first_unpaired(row);
     let host_label = ascii::units_are_host_label(row);
     if !meant {
-        return utf16::points_error(ErrorCode::NotWellFormed, 0);
+        return Err(ErrorCode::NotWellFormed.at(0));
     }
     if unpaired < n {
-        return utf16::points_error(ErrorCode::NotWellFormed, 0);
+        return Err(ErrorCode::NotWellFormed.at(0));
     }
     if host_label {
-        return utf16::points_error(ErrorCode::HostLabel, 0);
+        return Err(ErrorCode::HostLabel.at(0));
     }
     utf16::to_points(&units, UnitCount(n), text)
 }

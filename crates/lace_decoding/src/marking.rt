@@ -7,9 +7,5 @@ pub(crate) fn put_no_marks(count: usize, marks: &mut [u8])
     requires { count ≤ length marks.old }
     ensures { marks.new ≡ no_marks count ++ drop count marks.old }
 {
-    let mut i = 0;
-    while i < count {
-        marks[i] = 0;
-        i += 1;
-    }
+    marks[..count].fill(0);
 }

@@ -1,20 +1,23 @@
 -- What writing a label needs: the turns of the loops, the octets and the label put together, and the units of a text.
 use Prim.Native.Nat.{ℕ, suc, ◌+◌, ◌-◌, ◌*◌, ◌/◌, ◌%◌, ◌≤◌, ◌<◌}
 use mathlib.Core.Path.{◌≡◌, refl, sym, ap, ◌∙◌}
+use mathlib.Core.Bool.{true, false, not}
 use mathlib.Core.List.{List, [], ◌∷◌, ◌++◌}
 use lib.Dec.{eqb, ltb}
-use lib.ListN.{length, take, drop, set, length-append, length-drop, drop_of_length-le}
-use lib.Seq.{sets, take-length, drop-cons}
-use borrow.Author.Tests.{eq-eqb, ne_eqb, le-leb, lt-leb, lt-ltb, le-ltb}
+use lib.ListN.{length, take, drop, set, length-drop, drop_of_length-le}
+use lib.Seq.{take-length, drop-cons}
+use borrow.Author.Tests.{eq-eqb, le-leb, lt-leb, lt-ltb, le-ltb}
 use native.Mathlib.Numerals.{add-one}
 use native.Mathlib.Omega.{arith}
-use Rattle.basis.specs.Rows.{at, AllBelow}
+use Rattle.std.proofs.Common.{Option, None, Some}
+use Rattle.basis.specs.Tests.{first_below, first_in}
+use Rattle.basis.specs.Rows.{at}
 use Rattle.basis.specs.Outcome.{Outcome, done, refused, refused_if, count_of, buffer_after}
-use Rattle.basis.proofs.Tests.{cases}
+use Rattle.basis.proofs.Tests.{cases, first-le}
 use Rattle.basis.proofs.Lists.{sets-front}
-use Rattle.basis.proofs.Stores.{Storing, storing-more, storing-none}
+use Rattle.basis.proofs.Stores.{Storing, Stored, stored_one, stored-append, storing-piece, storing-none}
 use Rattle.basis.proofs.Parts.{rest-is, rest-filled, front-is}
-use Rattle.basis.proofs.Outcome.{pass_below, refusal-leaves, done-leaves}
+use Rattle.basis.proofs.Outcome.{pass_below, refused-leaves, done-leaves}
 use Rattle.utf16.specs.Units.{to_units}
 use Rattle.utf16.specs.Answer.{units_to_bytes_outcome}
 use Rattle.utf16.proofs.RoundTrip.{some-to_units}
@@ -28,56 +31,48 @@ use Rattle.base32.proofs.Values.{length-characters_of}
 use Rattle.lace_format.specs.Prefix.{prefix}
 use Rattle.lace_format.specs.Octets.{run_count}
 use Rattle.lace_encoding.specs.Encoding.{octets_of, label_of}
-use Rattle.lace_encoding.specs.Internal.{same_high, run_step, run_steps, units_outcome}
+use Rattle.lace_encoding.specs.Internal.{same_high, continues, run_step, run_steps, units_outcome}
 use Rattle.lace_encoding.proofs.Runs.{runs-count, runs-steps, units-few}
 
--- the units of one high octet from index i on: one more, another, none left
-module _ (high : ℕ) (us : List ℕ) (i n all : ℕ) (inv : all ≡ n + same_high high (drop i us)) where
-  pub high-more : i < length us → at us i / 256 ≡ high → all ≡ n + 1 + same_high high (drop (i + 1) us)
-  unfolding same_high
-  high-more h e =
-      let d : same_high high (drop i us) ≡ suc (same_high high (drop (i + 1) us)) = rw (drop-cons us i 0, add-one, eq-eqb (at us i / 256) high e) in
-      omega arith
+-- the units of one high octet end at the first of another
+pub high-first : (high : ℕ) (us : List ℕ) → first_in (λ u. not (eqb (u / 256) high)) us ≡ same_high high us
+unfolding same_high first_below
+high-first high [] = refl
+high-first high (u ∷ us) = cases (eqb (u / 256) high) (λ e. rw e (ap suc (high-first high us))) (λ e. rw e)
 
-  pub high-other : i < length us → (at us i / 256 ≡ high → ⊥) → n ≡ all
-  unfolding same_high
-  high-other h q =
-      let d : same_high high (drop i us) ≡ 0 = rw (drop-cons us i 0, ne_eqb (at us i / 256) high q) in
-      omega arith
-
-  pub high_end : length us ≤ i → n ≡ all
-  unfolding same_high
-  high_end h = omega (arith, ap (same_high high) (drop_of_length-le us h))
+pub high-few : (high : ℕ) (us : List ℕ) → same_high high us ≤ length us
+high-few high us = omega (arith, high-first high us, first-le (length us) (λ i. not (eqb (at us i / 256) high)))
 
 -- the octets that the unit at index i adds, stored from index k on, and the index after them
-module _ (us : List ℕ) (i before : ℕ) (inside : i < length us) (octets : List ℕ) (k : ℕ) where
+module _ (us : List ℕ) (i : ℕ) (before : Option ℕ) (inside : i < length us) (octets : List ℕ) (k : ℕ) where
   abbrev step : List ℕ
   step = run_step before (drop i us)
 
-  pub put_low : at us i / 256 ≡ before → (k + 1 ≡ k + length step) × (set octets k (at us i % 256) ≡ sets octets k step)
+  pub put_low : continues before (at us i / 256) ≡ true → Stored octets k step (set octets k (at us i % 256)) (k + 1)
   unfolding run_step
-  put_low e = rw (drop-cons us i 0, eq-eqb (at us i / 256) before e) (refl, refl)
+  put_low e = rw (drop-cons us i 0, e) (stored_one _ _ _)
 
-  pub put-start : (at us i / 256 ≡ before → ⊥) → (n : ℕ) → n ≡ same_high (at us i / 256) (drop i us)
-      → (k + 3 ≡ k + length step) × (set (set (set octets k n) (k + 1) (at us i / 256)) (k + 2) (at us i % 256) ≡ sets octets k step)
+  pub put-start : continues before (at us i / 256) ≡ false → (n : ℕ) → n ≡ same_high (at us i / 256) (drop i us)
+      → Stored octets k step (set (set (set octets k n) (k + 1) (at us i / 256)) (k + 2) (at us i % 256)) (k + 3)
   unfolding run_step same_high
   put-start q n e =
       let d : n ≡ suc (same_high (at us i / 256) (drop (suc i) us)) = e ∙ rw (drop-cons us i 0, eq-eqb (at us i / 256) (at us i / 256) refl) in
-      let j : k + 2 ≡ suc (suc k) = omega arith in
-      rw (drop-cons us i 0, ne_eqb (at us i / 256) before q, d, j, add-one) (refl, refl)
+      let j : k + 2 ≡ k + 1 + 1 = omega arith in
+      let l : k + 3 ≡ k + 1 + 1 + 1 = omega arith in
+      rw (drop-cons us i 0, q, ← d, j, l) (stored-append (stored-append (stored_one _ _ _) (stored_one _ _ _)) (stored_one _ _ _))
 
   pub step-few : length step ≤ 3
   unfolding run_step
-  step-few = rw (drop-cons us i 0) (cases (eqb (at us i / 256) before) (λ e. rw e (omega arith)) (λ e. rw e (omega arith)))
+  step-few = rw (drop-cons us i 0) (cases (continues before (at us i / 256)) (λ e. rw e (omega arith)) (λ e. rw e (omega arith)))
 
 -- the octets of the runs from index i on: those of one unit are stored, or none are left
-module _ (old us now : List ℕ) (before k i : ℕ) (s : Storing old (run_steps 256 us) now k (run_steps before (drop i us))) where
-  pub runs-turn : i < length us → (more : List ℕ) (next : ℕ) → more ≡ sets now k (run_step before (drop i us)) → next ≡ k + length (run_step before (drop i us))
-      → Storing old (run_steps 256 us) more next (run_steps (at us i / 256) (drop (i + 1) us))
+module _ (old us now : List ℕ) (before : Option ℕ) (k i : ℕ) (s : Storing old (run_steps None us) now k (run_steps before (drop i us))) where
+  pub runs-turn : i < length us → {more : List ℕ} {next : ℕ} → Stored now k (run_step before (drop i us)) more next
+      → Storing old (run_steps None us) more next (run_steps (Some (at us i / 256)) (drop (i + 1) us))
   unfolding run_steps
-  runs-turn h more next m n = storing-more _ _ _ _ _ s (run_step before (drop i us)) _ (rw (drop-cons us i 0, add-one)) more next m n
+  runs-turn h t = storing-piece s (rw (drop-cons us i 0, add-one)) t
 
-  pub runs-end : length us ≤ i → k ≤ length old → (k ≡ length (run_steps 256 us)) × (now ≡ run_steps 256 us ++ drop (length (run_steps 256 us)) old)
+  pub runs-end : length us ≤ i → k ≤ length old → (k ≡ length (run_steps None us)) × (now ≡ run_steps None us ++ drop (length (run_steps None us)) old)
   unfolding run_steps
   runs-end h l =
       let e : run_steps before (drop i us) ≡ [] = rw (drop_of_length-le us h) in
@@ -108,19 +103,15 @@ module _ (us old : List ℕ) (fits : 2 * length us + 1 ≤ length old) where
       rest-filled 1 (2 * length us) (255 ∷ []) (bytes_of_units us) old (set old 0 255) refl begun part (e ∙ rw (all_done, take-length))
       ∙ ap (λ (n : ℕ). (0xff ∷ bytes_of_units us) ++ drop n old) k
 
-  pub all-long : (now : List ℕ) → now ≡ (0xff ∷ bytes_of_units us) ++ drop (2 * length us + 1) old → length now ≡ length old
-  all-long now e =
-      omega (arith, ap length e, length-append (0xff ∷ bytes_of_units us) (drop (2 * length us + 1) old), length-drop (2 * length us + 1) old, length-bytes_of_units us)
-
 -- the octets of units are those of their runs, or FF and all units
 module _ (us : List ℕ) (r : ℕ) (count : r ≡ run_count us) (n : ℕ) (now old : List ℕ) where
   abbrev Put : List ℕ → Type 0
   Put values = (n ≡ length values) × (now ≡ values ++ drop (length values) old)
 
-  pub octets-runs : AllBelow 0x10000 us → 2 * r + length us ≤ 2 * length us → Put (run_steps 256 us) → Put (octets_of us)
+  pub octets-runs : 2 * r + length us ≤ 2 * length us → Put (run_steps None us) → Put (octets_of us)
   unfolding octets_of
-  octets-runs b h p =
-      let e : run_steps 256 us ≡ octets_of us = runs-steps us b ∙ rw (runs-count, ← count, le-leb (2 * r + length us) (2 * length us) h) in
+  octets-runs h p =
+      let e : run_steps None us ≡ octets_of us = runs-steps us ∙ rw (runs-count, ← count, le-leb (2 * r + length us) (2 * length us) h) in
       rw (← e) p
 
   pub octets-all : 2 * length us < 2 * r + length us → n ≡ 2 * length us + 1 → now ≡ (0xff ∷ bytes_of_units us) ++ drop (2 * length us + 1) old → Put (octets_of us)
@@ -174,12 +165,12 @@ module _ (us label : List ℕ) where
   UnitsAnswered answer now =
       (answer ≡ units_outcome us) × (now ≡ buffer_after (units_outcome us) (prefix ++ characters_of lace (octets_of us)) label)
 
-  pub units-many : 1 ≤ length us → 34 < length us → (answer : Outcome) → answer ≡ refused 3 0 → UnitsAnswered answer label
-  units-many some h answer e = refusal-leaves _ answer _ label 3 0 e (octets-long us (omega (arith, units-few us some)))
+  pub units-many : 1 ≤ length us → 34 < length us → UnitsAnswered (refused 3 0) label
+  units-many some h = refused-leaves _ _ label 3 0 (octets-long us (omega (arith, units-few us some)))
 
   module _ (n : ℕ) (count : n ≡ length (octets_of us)) where
-    pub octets-many : 36 < n → (answer : Outcome) → answer ≡ refused 3 0 → UnitsAnswered answer label
-    octets-many h answer e = refusal-leaves _ answer _ label 3 0 e (octets-long us (omega arith))
+    pub octets-many : 36 < n → UnitsAnswered (refused 3 0) label
+    octets-many h = refused-leaves _ _ label 3 0 (octets-long us (omega arith))
 
     pub units-done : n ≤ 36 → (os : List ℕ) → os ≡ octets_of us → (answer : Outcome) (now : List ℕ) → answer ≡ done (4 + quintet_count (length os))
         → now ≡ (prefix ++ characters_of lace os) ++ drop (4 + quintet_count (length os)) label → UnitsAnswered answer now

@@ -6,6 +6,7 @@ use lib.Dec.{eqb, leb}
 use lib.ListN.{length, length-append, length-map}
 use borrow.Author.Tests.{eqb-true, eqb-false, eq-eqb, ne_eqb}
 use native.Mathlib.Omega.{arith}
+use Rattle.std.proofs.Common.{None, Some}
 use Rattle.basis.specs.Tests.{pick}
 use Rattle.basis.specs.Rows.{AllBelow}
 use Rattle.basis.proofs.Tests.{cases}
@@ -82,19 +83,17 @@ same-high h (u ∷ us) =
     (λ e. rw e (ap suc (ap (λ k. same_high k us) (sym (eqb-true (u / 256) h e)) ∙ same-high (u / 256) us)))
     (λ e. rw e))
 
-steps-left : (before : ℕ) (us : List ℕ) → run_steps before us ≡ lows_under before (longest_runs us) ++ run_octets (runs_after before (longest_runs us))
+steps-left : (before : ℕ) (us : List ℕ) → run_steps (Some before) us ≡ lows_under before (longest_runs us) ++ run_octets (runs_after before (longest_runs us))
 unfolding run_steps run_step longest_runs lows_under runs_after run_octets
 steps-left before [] = refl
 steps-left before (u ∷ us) =
-    rw (join_is u (longest_runs us), eqb_swap before (u / 256), steps-left (u / 256) us)
-    (cases (eqb (u / 256) before) (λ e. rw e) (λ e. rw (e, same-high (u / 256) us)))
+    rw (join_is u (longest_runs us), steps-left (u / 256) us)
+    (cases (eqb before (u / 256)) (λ e. rw e) (λ e. rw (e, same-high (u / 256) us)))
 
-pub runs-steps : (us : List ℕ) → AllBelow 0x10000 us → run_steps 256 us ≡ run_octets (longest_runs us)
-unfolding run_steps longest_runs lows_under runs_after run_octets
-runs-steps [] b = refl
-runs-steps (u ∷ us) b =
-    let h = b 0 (omega arith) in
-    steps-left 256 (u ∷ us) ∙ rw (join_is u (longest_runs us)) (rw (ne_eqb 256 (u / 256) (λ e. omega arith)))
+pub runs-steps : (us : List ℕ) → run_steps None us ≡ run_octets (longest_runs us)
+unfolding run_steps run_step longest_runs run_octets
+runs-steps [] = refl
+runs-steps (u ∷ us) = rw (join_is u (longest_runs us), steps-left (u / 256) us, same-high (u / 256) us)
 
 -- how many octets the runs have
 pub length-run_octets : (rs : List Run) → length (run_octets rs) ≡ 2 * length rs + length (run_units rs)

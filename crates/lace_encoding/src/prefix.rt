@@ -9,8 +9,5 @@ pub(crate) fn put_prefix(label: &mut [u8])
     requires { 4 ≤ length label.old }
     ensures { label.new ≡ prefix ++ drop 4 label.old }
 {
-    label[0] = PREFIX[0];
-    label[1] = PREFIX[1];
-    label[2] = PREFIX[2];
-    label[3] = PREFIX[3];
+    label[..4].copy_from_slice(&PREFIX);
 }

@@ -17,11 +17,12 @@ pub fn has_prefix(label: &[u8]) -> bool
 }
 
 // 1 where two units differ in high octet, else 0.
+#[tactic(auto, using(crate::proofs::RowTests::change_is))]
 fn change(before: u16, unit: u16) -> usize
     ensures value { result ≡ change_between before unit }
     ensures upper_bound { result ≤ 1 }
 {
-    if before / 256 == unit / 256 { 0 } else { 1 }
+    usize::from(before / 256 != unit / 256)
 }
 
 // How many longest runs of equal high octet the units have.
@@ -29,14 +30,12 @@ pub fn run_count(units: &[u16]) -> usize
     ensures value { result ≡ run_count units.now }
     ensures upper_bound { result ≤ length units.now }
 {
-    if units.len() == 0 {
+    if units.is_empty() {
         return 0;
     }
     let mut r = 1;
-    let mut i = 1;
-    while i < units.len() {
-        r += change(units[i - 1], units[i]);
-        i += 1;
+    for pair in units.windows(2) {
+        r += change(pair[0], pair[1]);
     }
     r
 }

@@ -1,11 +1,12 @@
--- Laws on what is held of a line: a buffer that takes the bytes of a part one by one while there is room.
-use Prim.Native.Nat.{ℕ, zero, suc, ◌+◌, ◌≤◌, ◌<◌}
-use mathlib.Core.Path.{◌≡◌, refl, sym, ap, ap₂, ◌∙◌}
-use mathlib.Core.List.{List, [], ◌∷◌, ◌++◌, append-nil, append_assoc}
-use lib.ListN.{length, get_or, take, drop, set, length-set, drop_of_length-le, take-append-drop}
-use lib.Seq.{length-take-le, take_all, take_at, take-suc-set, drop-cons, drop-set-lt, drop-drop}
-use native.Mathlib.Numerals.{add-one}
+-- Laws on what is held of a line: the first bytes of a buffer and of a part stored behind them.
+use Prim.Native.Nat.{ℕ, zero, suc, ◌+◌, ◌-◌, ◌≤◌, min}
+use mathlib.Core.Path.{◌≡◌, refl, sym, ap, ◌∙◌}
+use mathlib.Core.List.{List, [], ◌∷◌, ◌++◌, append_assoc}
+use borrow.Rule.Slice.PartMut.{put_mid}
+use lib.ListN.{length, take, drop, length-append, length-take}
+use lib.Seq.{length-take-le, take_all, take-append-add, drop-drop}
 use native.Mathlib.Omega.{arith}
+use Rattle.basis.proofs.Tests.{by-lt}
 use Rattle.lines.specs.Step.{in_front}
 
 -- holding the first bytes of what is held already and more is holding those of all
@@ -14,49 +15,28 @@ take-held zero held more = refl
 take-held (suc limit) [] more = refl
 take-held (suc limit) (b ∷ held) more = ap (λ (l : List ℕ). b ∷ l) (take-held limit held more)
 
--- of a part to be held behind the first bytes of the buffer old, the bytes from i on are left, and the buffer now holds n bytes
-pub record Holding (old : List ℕ) (held : ℕ) (part now : List ℕ) (n i : ℕ) : Type 0 where
-  pub holds : take (length old) (take n now ++ drop i part) ≡ take (length old) (take held old ++ part)
-  pub behind : drop n now ≡ drop n old
-  pub long : length now ≡ length old
-  pub fits : n ≤ length old
+-- a part that was stored behind the bytes held, as far as there is room: the first bytes of both are in front
+module _ (old : List ℕ) (held : ℕ) (part : List ℕ) (end : ℕ) (inside : held ≤ length old) (is : end ≡ min (length old) (held + length part)) where
+  abbrev whole : List ℕ
+  whole = take (length old) (take held old ++ part)
 
-pub holding-start : (old : List ℕ) (held : ℕ) (part : List ℕ) → held ≤ length old → Holding old held part old held 0
-holding-start old held part h = record { holds = refl; behind = refl; long = refl; fits = h }
+  all-room : take (length old - held) part ≡ take (end - held) part
+  all-room =
+      by-lt (length part) (length old - held)
+      (λ h. take_all (length old - held) part (omega arith) ∙ sym (take_all (end - held) part (omega arith)))
+      (λ h. let e : length old - held ≡ end - held = omega arith in ap (λ (n : ℕ). take n part) e)
 
-module _ (old : List ℕ) (held : ℕ) (part now : List ℕ) (n i : ℕ) (h : Holding old held part now n i) where
-  -- one byte more
-  pub holding-more : i < length part → n < length now → Holding old held part (set now n (get_or part i 0)) (n + 1) (i + 1)
-  holding-more p r = record {
-    holds = ap (take (length old)) next ∙ h.holds;
-    behind = drop-set-lt (n + 1) now n (get_or part i 0) (omega arith) ∙ sym (drop-drop 1 n now) ∙ ap (drop 1) h.behind ∙ drop-drop 1 n old;
-    long = rw length-set h.long;
-    fits = omega (arith, h.long);
-  }
-    where
-      next : take (n + 1) (set now n (get_or part i 0)) ++ drop (i + 1) part ≡ take n now ++ drop i part
-      next = rw (add-one n, add-one i, take-suc-set now n (get_or part i 0), append_assoc (take n now), drop-cons part i 0)
+  whole-is : whole ≡ take held old ++ take (end - held) part
+  whole-is =
+      let e : length old ≡ length (take held old) + (length old - held) = omega (arith, length-take-le held old inside) in
+      ap (λ (n : ℕ). take n (take held old ++ part)) e ∙ take-append-add (take held old) part (length old - held) ∙ ap (λ (l : List ℕ). take held old ++ l) all-room
 
-  -- the bytes held are in front, and behind them what was there
-  held-stand : (whole : List ℕ) → whole ≡ take n now → (n ≡ length whole) × (now ≡ in_front whole old)
-  held-stand whole e =
-      let long : n ≡ length whole = sym (ap length e ∙ length-take-le n now (omega (arith, h.long, h.fits))) in (
-        long,
-        sym (take-append-drop n now) ∙ ap (λ (l : List ℕ). take n now ++ l) h.behind ∙ ap₂ (λ (l : List ℕ) (k : ℕ). l ++ drop k old) (sym e) long,
-      )
+  whole-long : held + (end - held) ≡ length whole
+  whole-long = omega (arith, ap length whole-is, length-append (take held old) (take (end - held) part), length-take-le held old inside, length-take (end - held) part)
 
-  -- no room is left
-  pub holding-full : n ≡ length now → (n ≡ length (take (length old) (take held old ++ part))) × (now ≡ in_front (take (length old) (take held old ++ part)) old)
-  holding-full e =
-      held-stand _
-      (sym h.holds ∙ take_at (take n now) (drop i part) (length old) (length-take-le n now (omega arith) ∙ e ∙ h.long))
-
-  -- no byte is left
-  pub holding-end : length part ≤ i → (n ≡ length (take (length old) (take held old ++ part))) × (now ≡ in_front (take (length old) (take held old ++ part)) old)
-  holding-end e =
-      let long = length-take-le n now (omega (arith, h.long, h.fits)) in
-      held-stand _
-      (sym h.holds
-      ∙ ap (λ (l : List ℕ). take (length old) (take n now ++ l)) (drop_of_length-le part e)
-      ∙ ap (take (length old)) (append-nil (take n now))
-      ∙ take_all (length old) (take n now) (omega (arith, h.fits)))
+  pub kept-front : (put : List ℕ) → put ≡ take (end - held) part → put_mid held (end - held) old put ≡ in_front whole old
+  kept-front put e =
+      rw e
+      (ap (λ (l : List ℕ). take held old ++ (take (end - held) part ++ l)) (drop-drop (end - held) held old ∙ ap (λ (n : ℕ). drop n old) whole-long)
+      ∙ sym (append_assoc (take held old) (take (end - held) part) (drop (length whole) old))
+      ∙ ap (λ (l : List ℕ). l ++ drop (length whole) old) (sym whole-is))

@@ -6,13 +6,16 @@ use mathlib.Core.List.{List, [], ◌∷◌, ◌++◌, append-nil, append_assoc}
 use lib.ListN.{length, get_or, take, drop, length-take, length-drop, drop_of_length-le}
 use lib.Seq.{length-take-le, take_all, take-nil}
 use native.Mathlib.Omega.{arith}
+use lib.Dec.{ltb}
+use Rattle.std.specs.Bool.{then_some}
+use Rattle.std.proofs.Common.{Option, Some, None}
 use borrow.Author.Tests.{lt-ltb, le-ltb}
 use Rattle.basis.specs.Tests.{first_below}
 use Rattle.basis.proofs.Tests.{cases, by-lt, first-le}
 use Rattle.basis.proofs.Parts.{part-is}
 use Rattle.lines.specs.Lines.{is_line_feed}
 use Rattle.lines.specs.Step.{line_end, held_after, in_front, step_answer}
-use Rattle.lines.specs.declared.LineStep.TheVariants.{Ended, More}
+use Rattle.lines.specs.declared.LineStep.{LineStep}
 use Rattle.lines.specs.Run.{held_then, ended_by, ended_in, held_in}
 use Rattle.lines.proofs.Holding.{take-held}
 
@@ -96,6 +99,10 @@ module _ (chunk : List ℕ) (from start : ℕ) (line : List ℕ) (held count : �
       (λ h. take_all count line (omega arith) ∙ sym (take_all held line h))
 
   module _ (end : ℕ) (e : end ≡ line_end left) where
+    -- it is no index past the chunk's end
+    pub end-inside : start + end ≤ length chunk
+    end-inside = omega (arith, part-long left end e, length-take end left, ap length (part-is start chunk), length-drop start chunk, s)
+
     end_is : end ≡ line_end (drop from chunk)
     end_is = e ∙ ap line_end left_is
 
@@ -113,31 +120,41 @@ module _ (chunk : List ℕ) (from start : ℕ) (line : List ℕ) (held count : �
       same : (n ≡ length whole) × (now ≡ in_front whole line)
       same = (k.0 ∙ ap length kept-is, k.1 ∙ ap (λ (l : List ℕ). in_front l line) kept-is)
 
-      pub takes-line : end < length chunk - start → (Ended (start + end + 1) n ≡ step_answer from (drop from chunk) (length whole)) × (now ≡ in_front whole line)
-      unfolding step_answer
-      takes-line h =
-          let i : line_end (drop from chunk) < length (drop from chunk) = omega (arith, end_is, length-drop from chunk) in
-          let j : start + end + 1 ≡ from + line_end (drop from chunk) + 1 = omega (arith, end_is) in
-          (rw (lt-ltb _ _ i) (ap₂ Ended j same.0), same.1)
+      abbrev found : Option ℕ → LineStep
+      found next = record { next = next; held = n }
 
-      pub takes-rest : length chunk - start ≤ end → (More n ≡ step_answer from (drop from chunk) (length whole)) × (now ≡ in_front whole line)
+      -- the line ends in what is left, or does not
+      pub takes : (next : Option ℕ) → next ≡ then_some (ltb end (length left)) (start + end + 1)
+          → (found next ≡ step_answer from (drop from chunk) (length whole)) × (now ≡ in_front whole line)
       unfolding step_answer
-      takes-rest h =
-          let i : length (drop from chunk) ≤ line_end (drop from chunk) = omega (arith, end_is, length-drop from chunk) in
-          (rw (le-ltb _ _ i) (ap More same.0), same.1)
+      takes next e =
+          by-lt end (length left)
+          (λ h.
+          let i : line_end (drop from chunk) < length (drop from chunk) = omega (arith, end_is, ap length left_is) in
+          let j : start + end + 1 ≡ from + line_end (drop from chunk) + 1 = omega (arith, end_is, ap length left_is, length-drop from chunk) in
+          (rw (e, lt-ltb _ _ h, lt-ltb _ _ i) (ap₂ (λ (k held : ℕ). record { next = Some k; held = held }) j same.0), same.1))
+          (λ h.
+          let i : length (drop from chunk) ≤ line_end (drop from chunk) = omega (arith, end_is, ap length left_is) in
+          (rw (e, le-ltb _ _ h, le-ltb _ _ i) (ap (λ (held : ℕ). record { next = None; held = held }) same.0), same.1))
 
 -- what an answer of the step says
-module _ (from : ℕ) (left : List ℕ) (count : ℕ) where
-  pub answers-ended : (next n : ℕ) → Ended next n ≡ step_answer from left count → (line_end left < length left) × (next ≡ from + line_end left + 1) × (n ≡ count)
+module _ (from : ℕ) (left : List ℕ) (count : ℕ) (step : LineStep) (is : step ≡ step_answer from left count) where
+  pub answers-held : step.held ≡ count
   unfolding step_answer
-  answers-ended next n e =
-      by-lt (line_end left) (length left)
-      (λ h. let q = rw (lt-ltb _ _ h) at e in (h, cc, cc))
-      (λ h. let q = rw (le-ltb _ _ h) at e in let z : ◌≡◌ {A = ℕ} 0 1 = cc in absurd (omega arith))
+  answers-held = ap (λ s. s.held) is
 
-  pub answers-more : (n : ℕ) → More n ≡ step_answer from left count → (length left ≤ line_end left) × (n ≡ count)
+  pub answers-ended : (next : ℕ) → step.next ≡ Some next → (line_end left < length left) × (next ≡ from + line_end left + 1)
   unfolding step_answer
-  answers-more n e =
+  answers-ended next e =
+      let n = sym (ap (λ s. s.next) is) ∙ e in
       by-lt (line_end left) (length left)
-      (λ h. let q = rw (lt-ltb _ _ h) at e in let z : ◌≡◌ {A = ℕ} 0 1 = cc in absurd (omega arith))
-      (λ h. let q = rw (le-ltb _ _ h) at e in (h, cc))
+      (λ h. let q = rw (lt-ltb _ _ h) at n in (h, cc))
+      (λ h. let q = rw (le-ltb _ _ h) at n in let z : ◌≡◌ {A = ℕ} 0 1 = cc in absurd (omega arith))
+
+  pub answers-more : step.next ≡ None → length left ≤ line_end left
+  unfolding step_answer
+  answers-more e =
+      let n = sym (ap (λ s. s.next) is) ∙ e in
+      by-lt (line_end left) (length left)
+      (λ h. let q = rw (lt-ltb _ _ h) at n in let z : ◌≡◌ {A = ℕ} 0 1 = cc in absurd (omega arith))
+      (λ h. h)

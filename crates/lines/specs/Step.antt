@@ -1,9 +1,8 @@
 -- One step: the bytes that are left of a chunk up to the first line feed, behind those held of a line.
-use Rattle.std.specs.Prelude.{ℕ, ◌+◌, List, ◌++◌, ltb, length, take, drop}
+use Rattle.std.specs.Prelude.{ℕ, ◌+◌, List, ◌++◌, ltb, length, take, drop, Some, None}
 use Rattle.basis.specs.Tests.{pick, first_in}
 use Rattle.lines.specs.Lines.{is_line_feed}
 use Rattle.lines.specs.declared.LineStep.{LineStep}
-use Rattle.lines.specs.declared.LineStep.TheVariants.{Ended, More}
 
 -- the index of the first line feed, or the length
 unfoldable pub line_end : List ℕ → ℕ
@@ -19,4 +18,4 @@ in_front values buffer = values ++ drop (length values) buffer
 
 -- the answer, of what is left from an index on: with a line feed the line ended, and the next begins behind it
 unfoldable pub step_answer : ℕ → List ℕ → ℕ → LineStep
-step_answer from left held = pick (ltb (line_end left) (length left)) (Ended (from + line_end left + 1) held) (More held)
+step_answer from left held = record { next = pick (ltb (line_end left) (length left)) (Some (from + line_end left + 1)) None; held = held }

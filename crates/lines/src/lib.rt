@@ -7,32 +7,20 @@ ghost use Rattle.lines.specs.Step.{line_end, held_after, in_front, step_answer};
 // The byte that ends a line.
 const LINE_FEED: u8 = b'\n';
 
-// What a step found: the line ended, and the next begins at an index of the chunk; or the chunk did. So many bytes are held.
+// What a step found: so many bytes are held; and where the next line begins in the chunk, if the line ended in it.
 #[derive(Drop)]
-pub enum LineStep {
-    Ended { next: usize, held: usize },
-    More { held: usize },
-}
-
-// The smaller of two numbers.
-fn least(a: usize, b: usize) -> usize
-    ensures { result ≡ min a b }
-{
-    if a < b { a } else { b }
+pub struct LineStep {
+    pub next: Option<usize>,
+    pub held: usize,
 }
 
 // The index of the first line feed, or the length.
 fn line_end(left: &[u8]) -> usize
     ensures { result ≡ line_end left.now }
 {
-    let mut i = 0;
-    while i < left.len() {
-        if left[i] == LINE_FEED {
-            return i;
-        }
-        i += 1;
-    }
-    i
+    left.iter()
+        .position(|&byte| byte == LINE_FEED)
+        .unwrap_or(left.len())
 }
 
 // Stores the part behind the bytes held, as far as there is room, and answers how many are held then.
@@ -41,17 +29,9 @@ fn keep(part: &[u8], line: &mut [u8], held: usize) -> usize
     ensures value { result ≡ length (take (length line.old) (take held line.old ++ part.now)) }
     ensures line_after { line.new ≡ in_front (take (length line.old) (take held line.old ++ part.now)) line.old }
 {
-    let mut n = held;
-    let mut i = 0;
-    while i < part.len() {
-        if n == line.len() {
-            return n;
-        }
-        line[n] = part[i];
-        n += 1;
-        i += 1;
-    }
-    n
+    let end = line.len().min(held + part.len());
+    line[held..end].copy_from_slice(&part[..end - held]);
+    end
 }
 
 // Takes the bytes of the chunk from an index on up to the first line feed behind those held in the line, as far as there
@@ -60,15 +40,12 @@ pub fn next_line(chunk: &[u8], from: usize, line: &mut [u8], held: usize) -> Lin
     ensures value { result ≡ step_answer from (drop from chunk.now) (length (held_after (length line.old) (take held line.old) (drop from chunk.now))) }
     ensures line_after { line.new ≡ in_front (held_after (length line.old) (take held line.old) (drop from chunk.now)) line.old }
 {
-    let start = least(from, chunk.len());
+    let start = from.min(chunk.len());
     let left = &chunk[start..];
     let end = line_end(left);
-    let kept = keep(&left[..end], line, least(held, line.len()));
-    if end < left.len() {
-        return LineStep::Ended {
-            next: start + end + 1,
-            held: kept,
-        };
+    let kept = keep(&left[..end], line, held.min(line.len()));
+    LineStep {
+        next: (end < left.len()).then_some(start + end + 1),
+        held: kept,
     }
-    LineStep::More { held: kept }
 }

@@ -12,20 +12,16 @@ use native.Mathlib.Numerals.{add-one}
 use native.Mathlib.Omega.{arith}
 use Rattle.basis.specs.Tests.{within}
 use Rattle.basis.specs.Rows.{at}
-use Rattle.basis.specs.Outcome.{Outcome, done, refused, refused_if, and_then, number_of, buffer_after}
-use Rattle.basis.specs.declared.ErrorCode.{ErrorCode}
+use Rattle.std.proofs.Common.{Result, Ok, Err}
+use Rattle.basis.specs.Outcome.{Outcome, done, refused, refused_if, and_then, outcome_by, buffer_after}
+use Rattle.basis.specs.declared.Refusal.{Refusal}
 use Rattle.basis.proofs.Tests.{cases, within-true, within-below, within-above, within_low, within-high}
 use Rattle.basis.proofs.Outcome.{stop-if, pass-if, stop-equal, pass-equal, stop-below, pass_below, refusal-kept, both-done, passed}
-use Rattle.utf16.specs.declared.PointCount.{PointCount}
 use Rattle.scheme.specs.Naming as naming
-use Rattle.scheme.specs.declared.Scheme.{Scheme}
 use Rattle.nametable_format.proofs.Parts.{entry-part}
 use Rattle.nametable_format.specs.Format.{header_kind, header_length, most_entries, entry_length, label_capacity, text_capacity, number_at, count_of, table_length, entry_at, reader_of, scheme_in}
 use Rattle.nametable.specs.Answer.{table_outcome, header_tests, header_outcome, length_tests, form_tests, entry_judged, entries_judged, size_tests, read_outcome, text_in, entry_text, found_outcome, find_outcome, entry_read, lone_entry_outcome, judged_entry_outcome, found, not_found, entry_outcome, entry_from}
-use Rattle.nametable.specs.declared.TableAnswer.{TableAnswer}
-use Rattle.nametable.specs.declared.TableAnswer.TheVariants as table
-use Rattle.nametable.specs.declared.EntryAnswer.{EntryAnswer}
-use Rattle.nametable.specs.declared.EntryAnswer.TheVariants as answer
+use Rattle.nametable.specs.declared.ReadEntry.{ReadEntry}
 
 -- the tests on a header, each in its turn
 module _ (kind : ℕ) (t : List ℕ) (next : Outcome) where
@@ -94,13 +90,13 @@ unfolding header_outcome
 header-counts kind t e = let d = (header-done kind t (done (count_of t)) e).1 in cc
 
 -- a header that was judged: its refusal is what it is with anything that follows, or it is lawful
-module _ (kind : ℕ) (t : List ℕ) (announced : TableAnswer) (judged : table_outcome announced ≡ header_outcome kind t) where
-  pub header_refused : {code : ErrorCode} {position : ℕ} (next : Outcome) → announced ≡ table.Error code position → table_outcome announced ≡ header_tests kind t next
-  unfolding table_outcome and_then
-  header_refused next is = sym (header-then kind t next ∙ rw (← judged, is))
+module _ (kind : ℕ) (t : List ℕ) (announced : Result ℕ Refusal) (judged : table_outcome announced ≡ header_outcome kind t) where
+  pub header_refused : {refusal : Refusal} {r : Result ℕ Refusal} (next : Outcome) → announced ≡ Err refusal → r ≡ Err refusal → table_outcome r ≡ header_tests kind t next
+  unfolding outcome_by and_then
+  header_refused next is handed = rw handed (sym (header-then kind t next ∙ rw (← judged, is)))
 
-  pub header-lawful : {n : ℕ} → announced ≡ table.Entries n → Header kind t × (n ≡ count_of t)
-  unfolding table_outcome header_outcome
+  pub header-lawful : {n : ℕ} → announced ≡ Ok n → Header kind t × (n ≡ count_of t)
+  unfolding outcome_by header_outcome
   header-lawful is =
       let answers = sym judged ∙ ap table_outcome is in
       ((header-done kind t (done (count_of t)) answers).0, header-counts kind t answers)
@@ -132,12 +128,6 @@ module _ (h : List ℕ) (kind : at h 0 ≡ header_kind) (header : header_length 
   unfolding read_outcome
   by_entries b = size-right (length h) _ b ∙ rw is
 
--- the answer with an error
-pub table-answers : (outcome : Outcome) (code : ErrorCode) (r : TableAnswer) → r ≡ table.Error code 0 → outcome ≡ refused (number_of code) 0
-    → table_outcome r ≡ outcome
-unfolding table_outcome
-table-answers outcome code r a e = rw (a, e)
-
 -- an entry's answer, back to the outcome that it came from
 pub from-refused : (e : List ℕ) (o : Outcome) {number position : ℕ} → entry_from e o ≡ not_found number position → o ≡ refused number position
 unfolding entry_from
@@ -168,26 +158,26 @@ module _ (t : List ℕ) (count i least : ℕ) where
   abbrev left : ℕ → Outcome
   left k = entries_judged i least k (drop (table_length i) t) count
 
-  module _ (more : i < count) (judged : EntryAnswer) (judges : entry_outcome judged ≡ entry_from (part_at t i) (entry_read least i (part_at t i))) where
+  module _ (more : i < count) (judged : Result ReadEntry Refusal) (judges : entry_outcome judged ≡ entry_from (part_at t i) (entry_read least i (part_at t i))) where
     left_is : left (count - i) ≡ left (suc (count - suc i))
     left_is = let l : count - i ≡ suc (count - suc i) = omega arith in rw l
 
-    pub turn-stops : {code : ErrorCode} {position : ℕ} {r : TableAnswer} → judged ≡ answer.Error code position → r ≡ table.Error code position → table_outcome r ≡ left (count - i)
-    unfolding entry_outcome table_outcome entries_judged entry_read entry_at
+    pub turn-stops : {refusal : Refusal} {r : Result ℕ Refusal} → judged ≡ Err refusal → r ≡ Err refusal → table_outcome r ≡ left (count - i)
+    unfolding entry_outcome outcome_by entries_judged entry_read entry_at
     turn-stops is a =
         let q = from-refused _ _ (sym judges ∙ ap entry_outcome is) in
         rw (a, left_is) (sym (refusal-kept _ _ _ _ refl (rw part-is at q)))
 
-    pub turn-goes : {reader : ℕ} {scheme : Scheme} {points : PointCount} → judged ≡ answer.Entry reader scheme points
-        → entries_judged (i + 1) (reader + 1) (count - (i + 1)) (drop (table_length (i + 1)) t) count ≡ left (count - i)
+    pub turn-goes : {entry : ReadEntry} → judged ≡ Ok entry
+        → entries_judged (i + 1) (entry.reader + 1) (count - (i + 1)) (drop (table_length (i + 1)) t) count ≡ left (count - i)
     unfolding entry_outcome entries_judged entry_read entry_at and_then
-    turn-goes {reader} is =
+    turn-goes {entry} is =
         let q = from_found _ _ (sym judges ∙ ap entry_outcome is) in
         let d : 3 + 67 * suc i ≡ 3 + 67 * i + 67 = omega arith in
         let p = (both-done _ _ _ (rw part-is at q.0)).0 in
         let j : entry_judged 1 label_capacity least (take entry_length (drop (table_length i) t)) ≡ done p.0 = p.1 in
-        let r : reader ≡ reader_of (drop (3 + 67 * i) t) = q.1 ∙ ap reader_of (part-is t i) ∙ reader-part (drop (3 + 67 * i) t) in
-        rw (left_is, add-one i, add-one reader, r, d, ← drop-drop 67 (3 + 67 * i) t, j)
+        let r : entry.reader ≡ reader_of (drop (3 + 67 * i) t) = q.1 ∙ ap reader_of (part-is t i) ∙ reader-part (drop (3 + 67 * i) t) in
+        rw (left_is, add-one i, add-one entry.reader, r, d, ← drop-drop 67 (3 + 67 * i) t, j)
 
 -- no entry left
 pub none_left : (index least count total : ℕ) (bytes : List ℕ) → count ≤ index → entries_judged index least (count - index) bytes total ≡ done total
@@ -335,7 +325,7 @@ module _ (t : List ℕ) (n : ℕ) (read : read_outcome t ≡ done n) (index : �
       ∙ rw read)
 
 -- an entry that was read as a part of the table
-pub part-read : (t : List ℕ) (index least position : ℕ) (r : EntryAnswer) (outcome : Outcome) (buffer now : List ℕ)
+pub part-read : (t : List ℕ) (index least position : ℕ) (r : Result ReadEntry Refusal) (outcome : Outcome) (buffer now : List ℕ)
     → (entry_outcome r ≡ entry_from (part_at t index) (entry_read least position (part_at t index))) × (now ≡ buffer_after (entry_read least position (part_at t index)) (text_in (part_at t index)) buffer)
     → least ≡ 0 → position ≡ index → outcome ≡ entry_read 0 index (entry_at t index)
     → (entry_outcome r ≡ entry_from (entry_at t index) outcome) × (now ≡ buffer_after outcome (entry_text t index) buffer)

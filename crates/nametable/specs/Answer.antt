@@ -1,22 +1,19 @@
 -- What reading a table, one entry of it, a header and an entry by themselves answer, for every input,
 -- in the order of the refusals.
-use Rattle.std.specs.Prelude.{ℕ, zero, suc, not, List, eqb, ltb, leb, length, take, drop}
+use Rattle.std.specs.Prelude.{ℕ, zero, suc, not, List, eqb, ltb, leb, length, take, drop, Result, Ok, Err}
 use Rattle.basis.specs.Tests.{within}
 use Rattle.basis.specs.Rows.{at}
-use Rattle.basis.specs.Outcome.{Outcome, done, refused, refused_if, and_then, number_of}
+use Rattle.basis.specs.Outcome.{Outcome, done, refused, refused_if, and_then, number_of, outcome_by}
 use Rattle.scheme.specs.Naming.{kind_names, is_known}
 use Rattle.scheme.specs.Naming as naming
 use Rattle.scheme.specs.Coding.{decode_outcome, text_of}
 use Rattle.nametable_format.specs.Format.{header_kind, header_length, most_entries, entry_length, label_capacity, text_capacity, count_of, table_length, entry_at, kind_of, reader_of, length_of, label_in, is_filled, scheme_in}
-use Rattle.nametable.specs.declared.TableAnswer.{TableAnswer}
-use Rattle.nametable.specs.declared.TableAnswer.TheVariants as table
-use Rattle.nametable.specs.declared.EntryAnswer.{EntryAnswer}
-use Rattle.nametable.specs.declared.EntryAnswer.TheVariants as entry
+use Rattle.basis.specs.declared.Refusal.{Refusal}
+use Rattle.nametable.specs.declared.ReadEntry.{ReadEntry}
 
--- the number of entries of an answer, or its error's number and position
-unfoldable pub table_outcome : TableAnswer → Outcome
-table_outcome (table.Entries count) = done count
-table_outcome (table.Error code position) = refused (number_of code) position
+-- what an answer in entries says
+abbrev pub table_outcome : Result ℕ Refusal → Outcome
+table_outcome answer = outcome_by (λ count. count) answer
 
 -- a header of this kind: empty 13; another first byte 14; under 3 bytes 13; a count that is not 1
 -- to 500 14; then what follows
@@ -119,9 +116,9 @@ pub data EntryOutcome : Type 0 where
   not_found : ℕ → ℕ → EntryOutcome
 
 -- the outcome of an answer
-unfoldable pub entry_outcome : EntryAnswer → EntryOutcome
-entry_outcome (entry.Entry reader scheme count) = found reader (naming.number_of scheme) count.0
-entry_outcome (entry.Error code position) = not_found (number_of code) position
+unfoldable pub entry_outcome : Result ReadEntry Refusal → EntryOutcome
+entry_outcome (Ok entry) = found entry.reader (naming.number_of entry.scheme) entry.count.0
+entry_outcome (Err refusal) = not_found (number_of refusal.code) refusal.position
 
 -- the entry with this count of points, or the refusal
 unfoldable pub entry_from : List ℕ → Outcome → EntryOutcome

@@ -3,15 +3,15 @@ ghost use Rattle.std.specs.Prelude.{◌≤◌, ◌≡◌, ◌++◌, length, drop
 ghost use Rattle.streams.specs.Reading.{believed};
 ghost use Rattle.nametable_differences.specs.Report.{report_of, report_capacity};
 
-use streams::Ending;
+use streams::ReadFailed;
 
 // Writes the report on what was read of two tables, and answers how many bytes that are. The first
 // ending says how reading the left table ended, the second that of the right one: a table of which a
 // read failed counts as an empty one, whatever was read before.
 pub(crate) fn put_believed(
-    first: Ending,
+    first: Result<(), ReadFailed>,
     left: &[u8],
-    second: Ending,
+    second: Result<(), ReadFailed>,
     right: &[u8],
     out: &mut [u8],
 ) -> usize

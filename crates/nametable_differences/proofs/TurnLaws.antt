@@ -15,7 +15,7 @@ use Rattle.nametable.proofs.TableLaws.{read_table}
 use Rattle.report.specs.Lines.{counts_line}
 use Rattle.nametable_differences.specs.declared.Difference.{Difference}
 use Rattle.nametable_differences.specs.declared.Difference.TheVariants.{Same, OtherText, Respelled, OnlyLeft, OnlyRight}
-use Rattle.nametable_differences.specs.declared.rows.Counts.{Counts}
+use Rattle.report.specs.declared.Counts.{Counts}
 use Rattle.nametable_differences.specs.declared.rows.Found.{Found}
 use Rattle.nametable_differences.specs.Differences.{compared, Row, row, reader_numbers, rows_of}
 use Rattle.nametable_differences.specs.Report.{row_line, row_lines, how_many, rows_report, report_capacity}

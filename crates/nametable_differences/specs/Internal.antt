@@ -5,7 +5,7 @@ use Rattle.basis.specs.Outcome.{Outcome, done, and_then}
 use Rattle.nametable_format.specs.Format.{count_of, entry_at, reader_of}
 use Rattle.nametable_differences.specs.declared.Difference.{Difference}
 use Rattle.nametable_differences.specs.declared.Difference.TheVariants.{Same, OtherText, Respelled, OnlyLeft, OnlyRight}
-use Rattle.nametable_differences.specs.declared.rows.Counts.{Counts}
+use Rattle.report.specs.declared.Counts.{Counts}
 use Rattle.nametable_differences.specs.declared.rows.Found.{Found}
 use Rattle.nametable_differences.specs.Differences.{verdict_of, in_long_form, compared, Row, reader_numbers}
 use Rattle.nametable_differences.specs.Report.{one_if, how_many}

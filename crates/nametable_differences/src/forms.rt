@@ -5,8 +5,7 @@ ghost use Rattle.nametable_format.specs.Format.{most_entries, table_length};
 ghost use Rattle.nametable_differences.specs.Differences.{is_short, in_long_form};
 ghost use Rattle.nametable_differences.specs.Internal.{long_form_outcome};
 
-use basis::{ByteCount, BytesAnswer};
-use nametable::TableAnswer;
+use basis::{ByteCount, Refusal};
 
 // Whether a table is taken for one of the short form.
 fn is_short(table: &[u8]) -> bool
@@ -30,21 +29,18 @@ fn copy(table: &[u8], long: &mut [u8]) -> usize
 }
 
 // Judges a table of the long form and copies it, and answers how many bytes it has.
-fn put_long(table: &[u8], long: &mut [u8]) -> BytesAnswer
+fn put_long(table: &[u8], long: &mut [u8]) -> Result<ByteCount, Refusal>
     requires table_value { is_short table.now ≡ false }
     requires most_entries_in_bounds { table_length most_entries ≤ length long.old }
     ensures result_value { bytes_outcome result ≡ long_form_outcome table.now }
     ensures long_after { long.new ≡ buffer_after (long_form_outcome table.now) (in_long_form table.now) long.old }
 {
-    let verdict = nametable::read(table);
-    match verdict {
-        TableAnswer::Error { code, position } => basis::bytes_error(code, position),
-        TableAnswer::Entries(_) => BytesAnswer::Bytes(ByteCount(copy(table, long))),
-    }
+    nametable::read(table)?;
+    Ok(ByteCount(copy(table, long)))
 }
 
 // Judges a table of either form and leaves it in the long one, and answers how many bytes that are.
-pub(crate) fn put_long_form(table: &[u8], long: &mut [u8]) -> BytesAnswer
+pub(crate) fn put_long_form(table: &[u8], long: &mut [u8]) -> Result<ByteCount, Refusal>
     requires { table_length most_entries ≤ length long.old }
     ensures result_value { bytes_outcome result ≡ long_form_outcome table.now }
     ensures long_after { long.new ≡ buffer_after (long_form_outcome table.now) (in_long_form table.now) long.old }

@@ -7,8 +7,8 @@ ghost use Rattle.nametable_differences.specs.Differences.{row};
 ghost use Rattle.nametable_differences.specs.Report.{row_line, report_capacity};
 
 use crate::Difference;
-use crate::rows::Counts;
-use basis::ErrorCode;
+use basis::Refusal;
+use report::Counts;
 
 // Stores the line of a reader number and some words at an index, and answers the index after it.
 fn put_words(reader: u16, words: &[u8], out: &mut [u8], at: usize) -> usize
@@ -37,24 +37,16 @@ pub(crate) fn put_counts(counts: Counts, out: &mut [u8], at: usize) -> usize
     requires { at + length (counts_line counts.same counts.other counts.respelled counts.left counts.right) ≤ length out.old }
     ensures { Stored out.old at (counts_line counts.same counts.other counts.respelled counts.left counts.right) out.new result }
 {
-    let answer = report::counts_line(
-        counts.same,
-        counts.other,
-        counts.respelled,
-        counts.left,
-        counts.right,
-        &mut out[at..],
-    );
-    at + basis::bytes_written(answer)
+    at + basis::bytes_written(report::counts_line(counts, &mut out[at..]))
 }
 
 // Writes the line of a table's refusal, and answers its length.
-pub(crate) fn put_refusal(side: &[u8], code: ErrorCode, position: usize, out: &mut [u8]) -> usize
+pub(crate) fn put_refusal(side: &[u8], refusal: Refusal, out: &mut [u8]) -> usize
     requires side_len_bound { length side.now ≤ 5 }
     requires report_capacity_in_bounds { report_capacity ≤ length out.old }
-    ensures value { result ≡ length (side_refused_line side.now (number_of code) position) }
-    ensures out_after { out.new ≡ side_refused_line side.now (number_of code) position ++ drop (length (side_refused_line side.now (number_of code) position)) out.old }
+    ensures value { result ≡ length (side_refused_line side.now (number_of refusal.code) refusal.position) }
+    ensures out_after { out.new ≡ side_refused_line side.now (number_of refusal.code) refusal.position ++ drop (length (side_refused_line side.now (number_of refusal.code) refusal.position)) out.old }
 {
-    let number = basis::code_number(code);
-    basis::bytes_written(report::side_refused_line(side, number, position, out))
+    let number = u32::from(refusal.code);
+    basis::bytes_written(report::side_refused_line(side, number, refusal.position, out))
 }

@@ -25,7 +25,7 @@ use Rattle.nametable.specs.Answer.{form_tests, entry_judged, entries_judged, rea
 use Rattle.nametable_write.specs.Writing.{Entry, entry, entries_of, list_tests, scheme_of, entry_written, reader_in, entries_written, write_outcome, number_bytes, zeros, filled, entry_bytes, entries_bytes, table_of}
 use Rattle.nametable_write.specs.Internal.{Rows, Spelled}
 use Rattle.nametable.proofs.TableLaws.{by_entries}
-use Rattle.nametable_write.proofs.ListLaws.{left-count}
+use Rattle.nametable_write.proofs.ListLaws.{listed-count}
 use Rattle.nametable_write.proofs.StoreLaws.{label-writable, label-short, entry-long, all-spelled, written-total, table-long}
 use Rattle.nametable_facts.specs.Entries.{entry_in, entries_from, entries_in}
 
@@ -187,7 +187,7 @@ module _ (capacity : ℕ) (readers schemes lengths points : List ℕ) {n : ℕ} 
       )
 
   count-is : length listed ≡ length readers
-  count-is = left-count readers schemes lengths points tests-passed.0
+  count-is = listed-count readers schemes lengths points tests-passed.0.schemed tests-passed.0.measured
 
   pub written-counts : (n ≡ length (table_of listed)) × (n ≤ capacity)
   written-counts =

@@ -28,7 +28,7 @@ use Rattle.nametable.specs.Answer.{form_tests, entry_judged, entries_judged, rea
 use Rattle.nametable_write.specs.Writing.{Entry, entry, entries_of, sum_of, scheme_of, entry_written, reader_in, entries_written, write_outcome, number_bytes, zeros, filled, entry_bytes, entries_bytes, table_of}
 use Rattle.nametable_write.specs.Internal.{Spelled}
 use Rattle.nametable.proofs.TableLaws.{by_entries, reader-part, read_table}
-use Rattle.nametable_write.proofs.ListLaws.{by-sum}
+use Rattle.nametable_write.proofs.ListLaws.{tests-passed}
 use Rattle.nametable_write.proofs.StoreLaws.{entry-long}
 use Rattle.nametable_facts.specs.Entries.{entry_in, entries_from, entries_in, readers_of, schemes_of, lengths_of, points_of}
 use Rattle.nametable_facts.proofs.Whole.{label-long}
@@ -158,8 +158,8 @@ module _ (t : List ℕ) (n : ℕ) (read : read_outcome t ≡ done n) where
       let total : table_length (length (readers_of es)) ≡ length t = omega (arith, r, w.long) in
       rw held-is
       (pass_below 1 0 _ capacity (table_length (length (readers_of es))) (omega (arith, total))
-      ∙ (by-sum (readers_of es) (schemes_of es) (lengths_of es) (points_of es) (omega (arith, r, w.some, w.counted)) (omega (arith, r, w.few, w.counted)) s l true
-      (sym (eq-eqb _ _ (points-count es)))).0 _
+      ∙ tests-passed (readers_of es) (schemes_of es) (lengths_of es) (points_of es) (omega (arith, r, w.some, w.counted)) (omega (arith, r, w.few, w.counted)) s l
+      (sym (eq-eqb _ _ (points-count es))) _
       ∙ rw (rows-list es) (read-written t 0 0 n n (table_length (length (readers_of es))) entries-read) ∙ ap done total)
 
 -- a whole entry of bytes that reads: it is written again as it was exactly if its label is the one

@@ -6,11 +6,10 @@ use mathlib.Core.List.{List, ◌++◌}
 use lib.ListN.{length, take, drop}
 use native.Mathlib.Numerals.{add-one}
 use native.Mathlib.Omega.{arith}
-use Rattle.basis.specs.Outcome.{done, refused_if, number_of}
-use Rattle.basis.specs.declared.ErrorCode.{ErrorCode}
+use Rattle.std.proofs.Common.{Result, Ok, Err}
+use Rattle.basis.specs.Outcome.{done, refused_if, number_of, outcome_by}
+use Rattle.basis.specs.declared.Refusal.{Refusal}
 use Rattle.nametable.specs.Answer.{table_outcome, header_tests, read_outcome}
-use Rattle.nametable.specs.declared.TableAnswer.{TableAnswer}
-use Rattle.nametable.specs.declared.TableAnswer.TheVariants.{Entries, Error}
 use Rattle.nametable.proofs.TableLaws.{read_table}
 use Rattle.nametable_facts.proofs.Whole.{judged-entry-found}
 use Rattle.report.specs.Digits.{digit_count}
@@ -20,7 +19,7 @@ use Rattle.report.proofs.Filling.{Filling, filling-none, filling-more}
 use Rattle.report.proofs.DigitLaws.{digits-length, count-few}
 use Rattle.report.proofs.LineLaws.{number-length, refused-at-length}
 use Rattle.streams.specs.Reading.{believed}
-use Rattle.streams.specs.declared.Ending.TheVariants.{Failed}
+use Rattle.streams.specs.declared.ReadFailed.{ReadFailed}
 use Rattle.nametable_list.specs.Listing.{entry_line, entry_lines, listing, listing_after}
 use Rattle.nametable_list.specs.Internal.{listing_room}
 use Rattle.nametable_list.proofs.EntryLines.{line-fits}
@@ -56,20 +55,20 @@ pub entries_fit : (t : List ℕ) (total room : ℕ) → read_outcome t ≡ done 
 entries_fit t total room e h = let w = read_table t total e in omega (arith, w.counted, w.few)
 
 -- after a failed read the table is refused as cut, whatever was read before
-pub failed-listing : (bytes : List ℕ) → listing (believed Failed bytes) ≡ refused_at_line 13 0
+pub failed-listing : (failed : ReadFailed) (bytes : List ℕ) → listing (believed (Err failed) bytes) ≡ refused_at_line 13 0
 unfolding listing listing_after read_outcome header_tests refused_if
-failed-listing bytes = refl
+failed-listing failed bytes = refl
 
 -- the listing, by the table's verdict: what was written for it
-module _ (t : List ℕ) (verdict : TableAnswer) (v : table_outcome verdict ≡ read_outcome t) (old now : List ℕ) (n : ℕ) where
+module _ (t : List ℕ) (verdict : Result ℕ Refusal) (v : table_outcome verdict ≡ read_outcome t) (old now : List ℕ) (n : ℕ) where
   -- so many bytes, and they are in front
   abbrev Wrote : List ℕ → Type 0
   Wrote bytes = (n ≡ length bytes) × (now ≡ bytes ++ drop (length bytes) old)
 
-  pub listing-whole : (total : ℕ) → verdict ≡ Entries total → Wrote (entry_lines t total) → Wrote (listing t)
-  unfolding listing listing_after table_outcome
+  pub listing-whole : (total : ℕ) → verdict ≡ Ok total → Wrote (entry_lines t total) → Wrote (listing t)
+  unfolding listing listing_after outcome_by
   listing-whole total g w = rw (← v, g) w
 
-  pub listing-refused : (code : ErrorCode) (position : ℕ) → verdict ≡ Error code position → Wrote (refused_at_line (number_of code) position) → Wrote (listing t)
-  unfolding listing listing_after table_outcome
-  listing-refused code position g w = rw (← v, g) w
+  pub listing-refused : (refusal : Refusal) → verdict ≡ Err refusal → Wrote (refused_at_line (number_of refusal.code) refusal.position) → Wrote (listing t)
+  unfolding listing listing_after outcome_by
+  listing-refused refusal g w = rw (← v, g) w

@@ -8,17 +8,17 @@ ghost use Rattle.streams.specs.Reading.{believed};
 ghost use Rattle.nametable_list.specs.Listing.{entry_line, entry_lines, listing};
 ghost use Rattle.nametable_list.specs.Internal.{Found, listing_room};
 
-use basis::ErrorCode;
-use nametable::{EntryAnswer, TEXT_CAPACITY, TableAnswer};
-use streams::Ending;
+use basis::Refusal;
+use nametable::TEXT_CAPACITY;
+use streams::ReadFailed;
 
 // Writes the line of a refusal, and answers its length.
-fn put_refusal(code: ErrorCode, position: usize, out: &mut [u8]) -> usize
+fn put_refusal(refusal: Refusal, out: &mut [u8]) -> usize
     requires { line_room ≤ length out.old }
-    ensures value { result ≡ length (refused_at_line (number_of code) position) }
-    ensures out_after { out.new ≡ refused_at_line (number_of code) position ++ drop (length (refused_at_line (number_of code) position)) out.old }
+    ensures value { result ≡ length (refused_at_line (number_of refusal.code) refusal.position) }
+    ensures out_after { out.new ≡ refused_at_line (number_of refusal.code) refusal.position ++ drop (length (refused_at_line (number_of refusal.code) refusal.position)) out.old }
 {
-    basis::bytes_written(report::refused_at_line(basis::code_number(code), position, out))
+    basis::bytes_written(report::refused_at_line(u32::from(refusal.code), refusal.position, out))
 }
 
 // Writes the line of an entry that is there, and answers its length.
@@ -28,21 +28,14 @@ fn put_entry(table: &[u8], index: usize, out: &mut [u8]) -> usize
     ensures value { result ≡ length (entry_line table.now index) }
     ensures out_after { out.new ≡ entry_line table.now index ++ drop (length (entry_line table.now index)) out.old }
 {
+    // Fixed memory, so a buffer for the most points there can be, and their count.
     let mut points = [0u32; TEXT_CAPACITY];
-    let answer = nametable::judged_entry(table, index, &mut points);
-    match answer {
-        EntryAnswer::Error {
-            code: _,
-            position: _,
-        } => 0,
-        EntryAnswer::Entry {
-            reader,
-            scheme,
-            count: points_count,
-        } => {
-            let n = points_count.0;
-            let letter = scheme::letter(scheme);
-            basis::bytes_written(report::list_line(reader, letter, &points[..n], out))
+    match nametable::judged_entry(table, index, &mut points) {
+        Err(_) => 0,
+        Ok(entry) => {
+            let n = entry.count.0;
+            let letter = scheme::letter(entry.scheme);
+            basis::bytes_written(report::list_line(entry.reader, letter, &points[..n], out))
         }
     }
 }
@@ -55,10 +48,8 @@ fn put_entries(table: &[u8], total: usize, out: &mut [u8]) -> usize
     ensures out_after { out.new ≡ entry_lines table.now total ++ drop (length (entry_lines table.now total)) out.old }
 {
     let mut at = 0;
-    let mut i = 0;
-    while i < total {
+    for i in 0..total {
         at += put_entry(table, i, &mut out[at..]);
-        i += 1;
     }
     at
 }
@@ -69,16 +60,15 @@ fn put_listing(table: &[u8], out: &mut [u8]) -> usize
     ensures value { result ≡ length (listing table.now) }
     ensures out_after { out.new ≡ listing table.now ++ drop (length (listing table.now)) out.old }
 {
-    let verdict = nametable::read(table);
-    match verdict {
-        TableAnswer::Error { code, position } => put_refusal(code, position, out),
-        TableAnswer::Entries(total) => put_entries(table, total, out),
+    match nametable::read(table) {
+        Err(refusal) => put_refusal(refusal, out),
+        Ok(total) => put_entries(table, total, out),
     }
 }
 
 // Writes what is printed for what was read of a table, and answers how many bytes that are. If a
 // read failed, that is what is printed for an empty table, whatever was read before.
-pub(crate) fn put_believed(ending: Ending, bytes: &[u8], out: &mut [u8]) -> usize
+pub(crate) fn put_believed(ending: Result<(), ReadFailed>, bytes: &[u8], out: &mut [u8]) -> usize
     requires { listing_room ≤ length out.old }
     ensures value { result ≡ length (listing (believed ending bytes.now)) }
     ensures out_after { out.new ≡ listing (believed ending bytes.now) ++ drop (length (listing (believed ending bytes.now))) out.old }

@@ -7,17 +7,13 @@ use lib.Seq.{drop-cons, drop-length}
 use borrow.Author.Tests.{lt-ltb, le-ltb}
 use native.Mathlib.Numerals.{add-one}
 use native.Mathlib.Omega.{arith}
-use Rattle.basis.specs.Outcome.{Outcome, done, and_then}
-use Rattle.basis.specs.declared.ErrorCode.{ErrorCode}
+use Rattle.std.proofs.Common.{Result, Ok, Err}
+use Rattle.basis.specs.Outcome.{Outcome, done, and_then, outcome_by}
+use Rattle.basis.specs.declared.Refusal.{Refusal}
 use Rattle.basis.proofs.Outcome.{refusal-kept, both-done}
-use Rattle.utf16.specs.declared.PointCount.{PointCount}
-use Rattle.scheme.specs.declared.Scheme.{Scheme}
 use Rattle.nametable_format.specs.Format.{header_length, entry_length, label_capacity, text_capacity, reader_of}
 use Rattle.nametable.specs.Answer.{table_outcome, entry_judged, entry_read, lone_entry_outcome, entry_outcome, entry_from}
-use Rattle.nametable.specs.declared.TableAnswer.{TableAnswer}
-use Rattle.nametable.specs.declared.TableAnswer.TheVariants as table
-use Rattle.nametable.specs.declared.EntryAnswer.{EntryAnswer}
-use Rattle.nametable.specs.declared.EntryAnswer.TheVariants as answer
+use Rattle.nametable.specs.declared.ReadEntry.{ReadEntry}
 use Rattle.nametable.proofs.TableLaws.{from-refused, from_found, lone-read}
 use Rattle.nametable_receiver.specs.Receiving.{State, most_bytes, last_index, headed, stored, judged_with, with_entry, ended, stepped, received}
 
@@ -53,31 +49,31 @@ unfolding received
 received-over s chunk i h = rw (h, drop-length chunk)
 
 -- the verdict on the entries so far, with one more
-pub refusal-stays : (judged : TableAnswer) (entry : Outcome) (index : ℕ) {code : ErrorCode} {position : ℕ} → judged ≡ table.Error code position
-    → table_outcome judged ≡ judged_with (table_outcome judged) entry index
-unfolding table_outcome judged_with and_then
-refusal-stays judged entry index is = rw is
+pub refusal-stays : (judged : Result ℕ Refusal) (entry : Outcome) (index : ℕ) {refusal : Refusal} {r : Result ℕ Refusal} → judged ≡ Err refusal → r ≡ Err refusal
+    → table_outcome r ≡ judged_with (table_outcome judged) entry index
+unfolding outcome_by judged_with and_then
+refusal-stays judged entry index is handed = rw (is, handed)
 
-module _ (judged : TableAnswer) {n : ℕ} (good : judged ≡ table.Entries n) (least index capacity : ℕ) (room : text_capacity ≤ capacity) (e : List ℕ) (long : length e ≡ entry_length)
-    (one : EntryAnswer) (answers : entry_outcome one ≡ entry_from e (lone_entry_outcome least index capacity e)) where
+module _ (judged : Result ℕ Refusal) {n : ℕ} (good : judged ≡ Ok n) (least index capacity : ℕ) (room : text_capacity ≤ capacity) (e : List ℕ) (long : length e ≡ entry_length)
+    (one : Result ReadEntry Refusal) (answers : entry_outcome one ≡ entry_from e (lone_entry_outcome least index capacity e)) where
   abbrev verdict : Outcome
   verdict = entry_judged 1 label_capacity least e
 
   with-one : judged_with (table_outcome judged) verdict index ≡ and_then (λ _. index) verdict (done (index + 1))
-  unfolding table_outcome judged_with and_then
+  unfolding outcome_by judged_with and_then
   with-one = rw (good, add-one index)
 
   answers-is : entry_outcome one ≡ entry_from e (entry_read least index e)
   answers-is = answers ∙ ap (entry_from e) (lone-read least index capacity e room long)
 
-  pub entry-refused : {code : ErrorCode} {position : ℕ} → one ≡ answer.Error code position
-      → table_outcome (table.Error code position) ≡ judged_with (table_outcome judged) verdict index
-  unfolding entry_outcome table_outcome entry_read
-  entry-refused is = sym (with-one ∙ refusal-kept _ _ _ _ refl (from-refused _ _ (sym answers-is ∙ ap entry_outcome is)))
+  pub entry-refused : {refusal : Refusal} {r : Result ℕ Refusal} → one ≡ Err refusal → r ≡ Err refusal
+      → table_outcome r ≡ judged_with (table_outcome judged) verdict index
+  unfolding entry_outcome outcome_by entry_read
+  entry-refused is handed = rw handed (sym (with-one ∙ refusal-kept _ _ _ _ refl (from-refused _ _ (sym answers-is ∙ ap entry_outcome is))))
 
-  pub entry-good : {reader : ℕ} {scheme : Scheme} {count : PointCount} → one ≡ answer.Entry reader scheme count
-      → table_outcome (table.Entries (index + 1)) ≡ judged_with (table_outcome judged) verdict index
-  unfolding entry_outcome table_outcome entry_read and_then
+  pub entry-good : {entry : ReadEntry} → one ≡ Ok entry
+      → table_outcome (Ok (index + 1)) ≡ judged_with (table_outcome judged) verdict index
+  unfolding entry_outcome outcome_by entry_read and_then
   entry-good is =
       let q = from_found _ _ (sym answers-is ∙ ap entry_outcome is) in
       let p = (both-done _ _ _ q.0).0 in

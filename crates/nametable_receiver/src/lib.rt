@@ -8,13 +8,13 @@ ghost use Rattle.std.specs.Prelude.{◌≡◌};
 ghost use Rattle.nametable.specs.Answer.{table_outcome};
 ghost use Rattle.nametable_receiver.specs.Receiving.{state_of, fresh, received, verdict_of};
 
-use basis::ErrorCode;
-use nametable::TableAnswer;
+use basis::{ErrorCode, Refusal};
 use nametable_format::{ENTRY_LENGTH, HEADER_LENGTH};
 
 // The bytes of the header, those of the entry that is being received and how many of them have come,
 // how many bytes have come in all, counted up to 33,504, the least reader number that this entry may
-// have, and the verdict on the entries before it: how many, or the first refusal.
+// have, and the verdict on the entries before it: how many, or the first refusal. The entry's bytes are
+// an array with their number beside it, since there is no heap.
 #[derive(Clone, Copy)]
 pub struct Receiver {
     pub header: [u8; HEADER_LENGTH],
@@ -22,7 +22,7 @@ pub struct Receiver {
     pub filled: usize,
     pub total: usize,
     pub least: usize,
-    pub judged: TableAnswer,
+    pub judged: Result<usize, Refusal>,
 }
 
 impl Receiver {
@@ -36,7 +36,7 @@ impl Receiver {
             filled: 0,
             total: 0,
             least: 0,
-            judged: TableAnswer::Entries(0),
+            judged: Ok(0),
         }
     }
 }
@@ -46,39 +46,27 @@ pub fn after_chunk(state: Receiver, chunk: &[u8]) -> Receiver
     ensures { state_of result ≡ received (state_of state) chunk.now }
 {
     let mut next = state;
-    let mut i = 0;
-    while i < chunk.len() {
-        next = steps::after_byte(next, chunk[i]);
-        i += 1;
+    for &byte in chunk {
+        next = steps::after_byte(next, byte);
     }
     next
 }
 
 // The verdict if the table is over: the header's, the length's, then that on the entries.
-pub fn verdict(state: Receiver) -> TableAnswer
+pub fn verdict(state: Receiver) -> Result<usize, Refusal>
     ensures { table_outcome result ≡ verdict_of (state_of state) }
 {
     let header = state.header;
     let total = state.total;
-    let announced = steps::announced(&header, total);
-    let TableAnswer::Entries(count) = announced else {
-        return announced;
-    };
+    let count = steps::announced(&header, total)?;
     let length = HEADER_LENGTH + ENTRY_LENGTH * count;
     if total < length {
-        return TableAnswer::Error {
-            code: ErrorCode::Truncated,
-            position: 0,
-        };
+        return Err(ErrorCode::Truncated.at(0));
     }
     if length < total {
-        return TableAnswer::Error {
-            code: ErrorCode::Malformed,
-            position: 0,
-        };
+        return Err(ErrorCode::Malformed.at(0));
     }
-    let judged = state.judged;
-    judged
+    state.judged
 }
 
 // Takes a chunk, of any length.
@@ -89,7 +77,7 @@ pub fn receive(state: &mut Receiver, chunk: &[u8])
 }
 
 // The verdict if the table is over. The state stays as it is.
-pub fn finish(state: &Receiver) -> TableAnswer
+pub fn finish(state: &Receiver) -> Result<usize, Refusal>
     ensures { table_outcome result ≡ verdict_of (state_of state.now) }
 {
     verdict(*state)

@@ -5,11 +5,12 @@ ghost use Rattle.nametable.specs.Answer.{table_outcome, header_outcome, entry_ju
 ghost use Rattle.nametable_receiver.specs.Receiving.{most_bytes, last_index, state_of, headed, stored, ended, judged_with, stepped};
 
 use crate::Receiver;
-use nametable::{EntryAnswer, TEXT_CAPACITY, TableAnswer};
+use basis::Refusal;
+use nametable::TEXT_CAPACITY;
 use nametable_format::{ENTRY_LENGTH, HEADER_KIND, HEADER_LENGTH, LONGEST_TABLE, READER_START};
 
 // The verdict on a header of which so many bytes have come.
-pub(crate) fn announced(header: &[u8], came: usize) -> TableAnswer
+pub(crate) fn announced(header: &[u8], came: usize) -> Result<usize, Refusal>
     ensures { table_outcome result ≡ header_outcome header_kind (take came header.now) }
 {
     if came < header.len() {
@@ -20,23 +21,18 @@ pub(crate) fn announced(header: &[u8], came: usize) -> TableAnswer
 
 // The verdict on the entries so far and on the next, which is at this index; an earlier refusal stays.
 fn judged_with(
-    earlier: TableAnswer,
+    earlier: Result<usize, Refusal>,
     least: usize,
     entry: [u8; ENTRY_LENGTH],
     index: usize,
-) -> TableAnswer
+) -> Result<usize, Refusal>
     requires { index < most_bytes }
     ensures { table_outcome result ≡ judged_with (table_outcome earlier) (entry_judged 1 label_capacity least entry) index }
 {
-    let TableAnswer::Entries(_) = earlier else {
-        return earlier;
-    };
+    earlier?;
     let mut text = [0u32; TEXT_CAPACITY];
-    let answer = nametable::lone_entry(&entry, least, index, &mut text);
-    match answer {
-        EntryAnswer::Entry { .. } => TableAnswer::Entries(index + 1),
-        EntryAnswer::Error { code, position } => TableAnswer::Error { code, position },
-    }
+    nametable::lone_entry(&entry, least, index, &mut text)?;
+    Ok(index + 1)
 }
 
 // A byte of the header.

@@ -8,31 +8,24 @@ ghost use Rattle.std.specs.Prelude.{◌≡◌, length};
 ghost use Rattle.basis.specs.Outcome.{bytes_outcome, buffer_after};
 ghost use Rattle.nametable_short.specs.Answer.{to_short, to_long, to_short_outcome, to_long_outcome};
 
-use basis::BytesAnswer;
-use nametable::TableAnswer;
+use basis::{ByteCount, Refusal};
 pub use nametable_short_format::SHORT_HEADER_KIND;
 pub use nametable_short_read::{entry, read};
 
 // Moves a long table to the short form.
-pub fn to_short(table: &[u8], short: &mut [u8]) -> BytesAnswer
+pub fn to_short(table: &[u8], short: &mut [u8]) -> Result<ByteCount, Refusal>
     ensures result_value { bytes_outcome result ≡ to_short_outcome table.now (length short.old) }
     ensures short_after { short.new ≡ buffer_after (to_short_outcome table.now (length short.old)) (to_short table.now) short.old }
 {
-    let verdict = nametable::read(table);
-    match verdict {
-        TableAnswer::Error { code, position } => basis::bytes_error(code, position),
-        TableAnswer::Entries(count) => moves::put_short_table(table, count, short),
-    }
+    let count = nametable::read(table)?;
+    moves::put_short_table(table, count, short)
 }
 
 // Moves a short table to the long form.
-pub fn to_long(short: &[u8], table: &mut [u8]) -> BytesAnswer
+pub fn to_long(short: &[u8], table: &mut [u8]) -> Result<ByteCount, Refusal>
     ensures result_value { bytes_outcome result ≡ to_long_outcome short.now (length table.old) }
     ensures table_after { table.new ≡ buffer_after (to_long_outcome short.now (length table.old)) (to_long short.now) table.old }
 {
-    let verdict = read(short);
-    match verdict {
-        TableAnswer::Error { code, position } => basis::bytes_error(code, position),
-        TableAnswer::Entries(count) => moves::put_long_table(short, count, table),
-    }
+    let count = read(short)?;
+    moves::put_long_table(short, count, table)
 }

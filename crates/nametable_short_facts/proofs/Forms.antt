@@ -8,6 +8,7 @@ use lib.Seq.{get_or-drop, ext_get_or}
 use borrow.Author.Tests.{eqb-true, eqb-false}
 use native.Mathlib.Nat.{le_of_suc-le-suc}
 use native.Mathlib.Omega.{arith}
+use Rattle.std.proofs.Common.{Option, Some, None}
 use Rattle.basis.specs.Rows.{at, tabulate}
 use Rattle.basis.specs.Outcome.{done}
 use Rattle.basis.proofs.Tests.{cases, by-lt, at_each}
@@ -15,8 +16,7 @@ use Rattle.basis.proofs.Lists.{at-past, length-tabulate, at-tabulate}
 use Rattle.basis.proofs.Outcome.{done-not-refused}
 use Rattle.scheme.specs.Naming.{own_number_names, kind_names, first_with, schemes}
 use Rattle.scheme.specs.Naming as naming
-use Rattle.scheme.specs.declared.Named.{Named}
-use Rattle.scheme.specs.declared.Named.TheVariants.{Known, Unknown}
+use Rattle.scheme.specs.declared.Scheme.{Scheme}
 use Rattle.scheme.proofs.Naming.{number-names, kind-names, kind-back, number-back}
 use Rattle.nametable_format.specs.Format.{entry_length, label_capacity, label_start, number_at, kind_of, reader_of, length_of, label_in, is_filled, scheme_in}
 use Rattle.nametable.specs.Answer.{entry_judged}
@@ -101,10 +101,10 @@ long-entry-label e long h =
     take-fitted (at e short_length_start) label_capacity (drop short_label_start e) (omega (arith, room_small (kind_of e))) (omega (arith, length-drop short_label_start e))
 
 -- the kind for what is named names the same
-pub kind-named : (named : Named) → kind_names (kind_named named) ≡ named
+pub kind-named : (named : Option Scheme) → kind_names (kind_named named) ≡ named
 unfolding kind_names kind_named first_with schemes naming.kind_of naming.row_of
-kind-named (Known scheme) = kind-names scheme
-kind-named Unknown = refl
+kind-named (Some scheme) = kind-names scheme
+kind-named None = refl
 
 -- a short entry that is judged good
 module _ (least : ℕ) (e : List ℕ) (long : length e ≡ short_length (kind_of e)) {n : ℕ} (judged : short_entry_judged least e ≡ done n) where

@@ -1,12 +1,11 @@
 -- The short form of the name table: a header of its own kind, then entries (02's short cards), whose
 -- kind says how much room there is for the label. The form of 01 is called the long one here.
-use Rattle.std.specs.Prelude.{ℕ, zero, suc, ◌+◌, List, ◌∷◌, eqb, leb, length, take, drop}
+use Rattle.std.specs.Prelude.{ℕ, zero, suc, ◌+◌, List, ◌∷◌, eqb, leb, length, take, drop, Option, Some, None}
 use Rattle.basis.specs.Tests.{pick}
 use Rattle.basis.specs.Rows.{at, tabulate}
 use Rattle.scheme.specs.Naming.{own_number_names}
 use Rattle.scheme.specs.Naming as naming
-use Rattle.scheme.specs.declared.Named.{Named}
-use Rattle.scheme.specs.declared.Named.TheVariants.{Known, Unknown}
+use Rattle.scheme.specs.declared.Scheme.{Scheme}
 use Rattle.nametable_format.specs.Format.{header_length, label_capacity, label_start, kind_of, length_of, scheme_in}
 
 -- the kind of the header, 49 hex
@@ -67,9 +66,9 @@ unfoldable pub fitted : ℕ → List ℕ → List ℕ
 fitted n bytes = tabulate n (at bytes)
 
 -- the kind of a long entry of the scheme that is named; 0, which is no scheme's, where none is
-unfoldable pub kind_named : Named → ℕ
-kind_named (Known scheme) = naming.kind_of scheme
-kind_named Unknown = 0
+unfoldable pub kind_named : Option Scheme → ℕ
+kind_named (Some scheme) = naming.kind_of scheme
+kind_named None = 0
 
 -- the long entry that a short one stands for: the kind of its scheme, the reader number, the label's
 -- length, and the room for the label, with zeros after it

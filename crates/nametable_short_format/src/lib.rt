@@ -9,7 +9,7 @@ ghost use Rattle.nametable_format.specs.Format.{label_capacity};
 ghost use Rattle.nametable_short_format.specs.Format.{short_label_start, room_of, kind_for, first_entry, fitted, kind_named, long_of, short_of, filled_by};
 
 use nametable_format::{ENTRY_LENGTH, LABEL_START, LENGTH_START, READER_START};
-use scheme::{Named, Scheme};
+use scheme::Scheme;
 
 // The kind of the header of a short table.
 pub const SHORT_HEADER_KIND: u8 = 0x49;
@@ -21,7 +21,8 @@ pub const SHORT_LENGTH_START: usize = 4;
 
 pub const SHORT_LABEL_START: usize = 5;
 
-// The room of a short entry of this kind for its label; 0 if no short entry has this kind.
+// The room of a short entry of this kind for its label; 0 if no short entry has this kind. A kind stays
+// the format's byte, as no enum would hold the bytes for which `room_of` promises 0.
 #[tactic(auto, unfolding(crate::specs::Format::room_of))]
 pub fn room_of(kind: u8) -> usize
     ensures { (result ≡ room_of kind) × (result ≤ label_capacity) }
@@ -56,10 +57,7 @@ pub fn kind_for(bytes: u8) -> u8
 fn byte_at(bytes: &[u8], i: usize) -> u8
     ensures { result ≡ at bytes.now i }
 {
-    if i < bytes.len() {
-        return bytes[i];
-    }
-    0
+    bytes.get(i).copied().unwrap_or(0)
 }
 
 // Where the short entry that begins at a byte of the table ends: where its kind says, or with the
@@ -81,10 +79,9 @@ pub fn end_of(table: &[u8], start: usize) -> usize
 fn long_kind(number: u8) -> u8
     ensures { result ≡ kind_named (own_number_names number) }
 {
-    let named = scheme::of_own_number(number as u32);
-    match named {
-        Named::Known(scheme) => scheme::kind(scheme),
-        Named::Unknown => 0,
+    match scheme::of_own_number(number as u32) {
+        Some(scheme) => scheme::kind(scheme),
+        None => 0,
     }
 }
 
@@ -93,11 +90,7 @@ fn long_kind(number: u8) -> u8
 fn scheme_number(kind: u8) -> u8
     ensures { result ≡ number_of (scheme_named (kind_names kind)) }
 {
-    let named = scheme::of_kind(kind);
-    match named {
-        Named::Known(scheme) => scheme::number(scheme) as u8,
-        Named::Unknown => scheme::number(Scheme::Lace) as u8,
-    }
+    scheme::number(scheme::of_kind(kind).unwrap_or(Scheme::Lace)) as u8
 }
 
 // Fills the room with the bytes from an index on, and with zeros past their end.
@@ -106,11 +99,8 @@ fn put_fitted(bytes: &[u8], start: usize, room: &mut [u8])
     requires room_len_bound { length room.old ≤ label_capacity }
     ensures { room.new ≡ fitted (length room.old) (drop start bytes.now) }
 {
-    let mut i = 0;
-    while i < room.len() {
-        let byte = byte_at(bytes, start + i);
-        room[i] = byte;
-        i += 1;
+    for (i, slot) in room.iter_mut().enumerate() {
+        *slot = byte_at(bytes, start + i);
     }
 }
 

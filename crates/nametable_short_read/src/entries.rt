@@ -7,21 +7,26 @@ ghost use Rattle.nametable_short_format.specs.Format.{short_length, short_entry_
 ghost use Rattle.nametable_short_read.specs.Answer.{short_entries_judged, short_read_outcome, short_entry_text, short_find_outcome};
 ghost use Rattle.nametable_short_read.specs.Internal.{BeginsAt, Stepped, short_entry_read};
 
-use basis::ErrorCode;
-use nametable::{EntryAnswer, TEXT_CAPACITY, TableAnswer};
+use basis::{ErrorCode, Refusal};
+use nametable::{ReadEntry, TEXT_CAPACITY};
 use nametable_format::{ENTRY_LENGTH, HEADER_LENGTH};
 use nametable_short_format::{SHORT_LABEL_START, SHORT_LENGTH_START};
 
-// What judging the next entry answers: its reader number and where it ends, or the error.
-#[derive(Drop)]
-pub(crate) enum Step {
-    Next { reader: u16, end: usize },
-    Error { code: ErrorCode, position: usize },
+// What judging the next entry answers: its reader number and where it ends.
+#[derive(Clone, Copy)]
+pub(crate) struct Judged {
+    pub reader: u16,
+    pub end: usize,
 }
 
 // Reads a whole short entry whose reader number is to be at least the least, as the long entry that
 // it stands for. An error is reported at the position, and leaves the text.
-fn read_short(short: &[u8], least: usize, position: usize, text: &mut [u32]) -> EntryAnswer
+fn read_short(
+    short: &[u8],
+    least: usize,
+    position: usize,
+    text: &mut [u32],
+) -> Result<ReadEntry, Refusal>
     requires short_len { length short.now ≡ short_length (kind_of short.now) }
     requires text_capacity_in_bounds { text_capacity ≤ length text.old }
     ensures result_value { entry_outcome result ≡ entry_from (long_of short.now) (short_entry_read least position short.now) }
@@ -29,10 +34,7 @@ fn read_short(short: &[u8], least: usize, position: usize, text: &mut [u32]) -> 
 {
     let kind = nametable_short_format::kind_for(short[SHORT_LENGTH_START]);
     if kind != short[0] {
-        return EntryAnswer::Error {
-            code: ErrorCode::Malformed,
-            position,
-        };
+        return Err(ErrorCode::Malformed.at(position));
     }
     let mut entry = [0u8; ENTRY_LENGTH];
     nametable_short_format::put_long(short, &mut entry);
@@ -40,7 +42,7 @@ fn read_short(short: &[u8], least: usize, position: usize, text: &mut [u32]) -> 
 }
 
 // Judges a whole short entry as `read_short` does, and drops its text.
-fn judge_short(short: &[u8], least: usize, position: usize) -> EntryAnswer
+fn judge_short(short: &[u8], least: usize, position: usize) -> Result<ReadEntry, Refusal>
     requires { length short.now ≡ short_length (kind_of short.now) }
     ensures { entry_outcome result ≡ entry_from (long_of short.now) (short_entry_read least position short.now) }
 {
@@ -50,65 +52,44 @@ fn judge_short(short: &[u8], least: usize, position: usize) -> EntryAnswer
 
 // Judges the entry that begins at a byte of the table and has this index: whether it is there, of a
 // known kind and whole, then the entry itself, whose reader number is to be at least the least.
-fn judge_next(table: &[u8], start: usize, least: usize, index: usize) -> Step
+fn judge_next(table: &[u8], start: usize, least: usize, index: usize) -> Result<Judged, Refusal>
     requires { start ≤ length table.now }
     ensures { Stepped table.now start least index result }
 {
     if start == table.len() {
-        return Step::Error {
-            code: ErrorCode::Truncated,
-            position: 0,
-        };
+        return Err(ErrorCode::Truncated.at(0));
     }
     let room = nametable_short_format::room_of(table[start]);
     if room == 0 {
-        return Step::Error {
-            code: ErrorCode::Malformed,
-            position: index,
-        };
+        return Err(ErrorCode::Malformed.at(index));
     }
     if table.len() - start < SHORT_LABEL_START + room {
-        return Step::Error {
-            code: ErrorCode::Truncated,
-            position: 0,
-        };
+        return Err(ErrorCode::Truncated.at(0));
     }
     let end = start + (SHORT_LABEL_START + room);
-    let judged = judge_short(&table[start..end], least, index);
-    match judged {
-        EntryAnswer::Error { code, position } => Step::Error { code, position },
-        EntryAnswer::Entry { reader, .. } => Step::Next { reader, end },
-    }
+    let entry = judge_short(&table[start..end], least, index)?;
+    Ok(Judged {
+        reader: entry.reader,
+        end,
+    })
 }
 
 // Judges all entries of a short table whose header announces so many, and that nothing follows them.
-pub(crate) fn judge(table: &[u8], count: usize) -> TableAnswer
+pub(crate) fn judge(table: &[u8], count: usize) -> Result<usize, Refusal>
     requires { header_length ≤ length table.now }
     ensures { table_outcome result ≡ short_entries_judged 0 0 count (drop header_length table.now) count }
 {
     let mut least = 0;
     let mut start = HEADER_LENGTH;
-    let mut i = 0;
-    while i < count {
-        let step = judge_next(table, start, least, i);
-        match step {
-            Step::Error { code, position } => {
-                return TableAnswer::Error { code, position };
-            }
-            Step::Next { reader, end } => {
-                least = reader as usize + 1;
-                start = end;
-            }
-        }
-        i += 1;
+    for i in 0..count {
+        let judged = judge_next(table, start, least, i)?;
+        least = judged.reader as usize + 1;
+        start = judged.end;
     }
     if start < table.len() {
-        return TableAnswer::Error {
-            code: ErrorCode::Malformed,
-            position: 0,
-        };
+        return Err(ErrorCode::Malformed.at(0));
     }
-    TableAnswer::Entries(count)
+    Ok(count)
 }
 
 // Where the entry at an index begins.
@@ -117,26 +98,27 @@ fn start_of(table: &[u8], index: usize) -> usize
     ensures { BeginsAt table.now index result }
 {
     let mut start = HEADER_LENGTH;
-    let mut i = 0;
-    while i < index {
+    // The index is named for the invariant.
+    for _i in 0..index {
         start = nametable_short_format::end_of(table, start);
-        i += 1;
     }
     start
 }
 
 // Reads the entry at an index of a short table that was judged whole, with so many entries.
-pub(crate) fn read_at(table: &[u8], count: usize, index: usize, text: &mut [u32]) -> EntryAnswer
+pub(crate) fn read_at(
+    table: &[u8],
+    count: usize,
+    index: usize,
+    text: &mut [u32],
+) -> Result<ReadEntry, Refusal>
     requires table_value { short_read_outcome table.now ≡ done count }
     requires text_capacity_in_bounds { text_capacity ≤ length text.old }
     ensures result_value { entry_outcome result ≡ entry_from (long_of (short_entry_at table.now index)) (short_find_outcome table.now index (length text.old)) }
     ensures text_after { text.new ≡ buffer_after (short_find_outcome table.now index (length text.old)) (short_entry_text table.now index) text.old }
 {
     if count <= index {
-        return EntryAnswer::Error {
-            code: ErrorCode::Malformed,
-            position: 0,
-        };
+        return Err(ErrorCode::Malformed.at(0));
     }
     let start = start_of(table, index);
     let end = nametable_short_format::end_of(table, start);

@@ -10,36 +10,27 @@ ghost use Rattle.nametable.specs.Answer.{table_outcome, entry_outcome, entry_fro
 ghost use Rattle.nametable_short_format.specs.Format.{short_entry_at, long_of};
 ghost use Rattle.nametable_short_read.specs.Answer.{short_read_outcome, short_entry_text, short_find_outcome};
 
-use basis::ErrorCode;
-use nametable::{EntryAnswer, TEXT_CAPACITY, TableAnswer};
+use basis::{ErrorCode, Refusal};
+use nametable::{ReadEntry, TEXT_CAPACITY};
 use nametable_short_format::SHORT_HEADER_KIND;
 
 // Judges a whole short table.
-pub fn read(table: &[u8]) -> TableAnswer
+pub fn read(table: &[u8]) -> Result<usize, Refusal>
     ensures { table_outcome result ≡ short_read_outcome table.now }
 {
-    let announced = nametable::header(SHORT_HEADER_KIND, table);
-    let TableAnswer::Entries(count) = announced else {
-        return announced;
-    };
+    let count = nametable::header(SHORT_HEADER_KIND, table)?;
     entries::judge(table, count)
 }
 
 // Reads the entry at an index of a short table, which is judged whole before.
 #[tactic(auto, using(crate::proofs::TableLaws::short_no_room), unfolding(nametable::specs::Answer::entry_outcome, nametable::specs::Answer::entry_from, basis::specs::Outcome::buffer_after))]
-pub fn entry(table: &[u8], index: usize, text: &mut [u32]) -> EntryAnswer
+pub fn entry(table: &[u8], index: usize, text: &mut [u32]) -> Result<ReadEntry, Refusal>
     ensures result_value { entry_outcome result ≡ entry_from (long_of (short_entry_at table.now index)) (short_find_outcome table.now index (length text.old)) }
     ensures text_after { text.new ≡ buffer_after (short_find_outcome table.now index (length text.old)) (short_entry_text table.now index) text.old }
 {
     if text.len() < TEXT_CAPACITY {
-        return EntryAnswer::Error {
-            code: ErrorCode::Capacity,
-            position: 0,
-        };
+        return Err(ErrorCode::Capacity.at(0));
     }
-    let verdict = read(table);
-    match verdict {
-        TableAnswer::Error { code, position } => EntryAnswer::Error { code, position },
-        TableAnswer::Entries(count) => entries::read_at(table, count, index, text),
-    }
+    let count = read(table)?;
+    entries::read_at(table, count, index, text)
 }

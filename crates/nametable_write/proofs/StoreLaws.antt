@@ -2,40 +2,46 @@
 -- table.
 use Prim.Native.Nat.{ℕ, zero, suc, ◌+◌, ◌-◌, ◌*◌, ◌≤◌, ◌<◌}
 use mathlib.Core.Path.{◌≡◌, refl, ap, ◌∙◌}
-use mathlib.Core.List.{List, [], ◌∷◌, ◌++◌, append-nil}
-use lib.ListN.{length, get_or, take, drop, set, length-append, drop_of_length-le}
+use mathlib.Core.List.{List, [], ◌∷◌, ◌++◌}
+use lib.ListN.{length, get_or, take, drop, length-append}
+use Rattle.std.specs.Prelude.{replicate}
+use Rattle.std.proofs.Common.{Option, Result}
+use Rattle.std.specs.Option.{unwrap_or}
 use lib.Seq.{sets, length-sets}
 use native.Mathlib.Omega.{arith}
 use Rattle.basis.specs.Rows.{tabulate}
 use Rattle.basis.specs.Outcome.{done, count_of, bytes_outcome, buffer_after}
 use Rattle.basis.specs.Codec.{Writable}
-use Rattle.basis.specs.declared.BytesAnswer.{BytesAnswer}
-use Rattle.basis.proofs.Lists.{length-tabulate, fill_more}
+use Rattle.basis.specs.declared.ByteCount.{ByteCount}
+use Rattle.basis.specs.declared.Refusal.{Refusal}
+use Rattle.basis.proofs.Lists.{length-tabulate}
 use Rattle.basis.proofs.Outcome.{both-done, passed}
 use Rattle.basis.proofs.Parts.{part-is, part-back}
 use Rattle.basis.proofs.Stores.{StoringFrom, Stored, storing-piece, storing-end, stored-append, stored-part}
 use Rattle.scheme.specs.Naming as naming
+use Rattle.scheme.specs.Naming.{own_number_names, scheme_named}
 use Rattle.scheme.specs.Coding.{codec_of, encode_outcome, label_of}
 use Rattle.scheme.specs.declared.Scheme.{Scheme}
+use Rattle.scheme.specs.declared.Scheme.TheVariants.{Lace}
 use Rattle.scheme.proofs.Coding.{faithful, writable-text}
+use Rattle.nametable_format.proofs.Schemes.{named-or-lace}
 use Rattle.nametable_format.specs.Format.{header_kind, header_length, entry_length, label_start, label_capacity, table_length}
-use Rattle.nametable_write.specs.Writing.{Entry, entry, entries_of, scheme_of, entry_written, entries_written, number_bytes, zeros, filled, entry_bytes, entries_bytes, table_of, reader_in}
-use Rattle.nametable_write.specs.Internal.{Rows, Spelled, AllSpelled}
+use Rattle.nametable_write.specs.Writing.{Entry, entry, scheme_of, entry_written, entries_written, number_bytes, zeros, filled, entry_bytes, entries_bytes, table_of, reader_in}
+use Rattle.nametable_write.specs.Internal.{Spelled, AllSpelled}
+use Rattle.nametable_write.specs.Tested.{entries_in}
+use Rattle.nametable_write.specs.declared.entry_list.EntryList.{EntryList}
 use Rattle.nametable_write.proofs.ListLaws.{left, next, nothing_left, left-next, left-count}
 
--- a buffer that is zero before an index: at the start, one byte more, and to the end
-pub cleared-none : (old : List ℕ) → old ≡ zeros 0 ++ drop 0 old
+-- so many zeros, as `fill` leaves them
+pub zeros-replicate : (n : ℕ) → replicate n 0 ≡ zeros n
 unfolding zeros tabulate
-cleared-none old = refl
+zeros-replicate zero = refl
+zeros-replicate (suc n) = ap (λ (l : List ℕ). 0 ∷ l) (zeros-replicate n)
 
-pub cleared_more : (now old : List ℕ) (i : ℕ) → i < length old → now ≡ zeros i ++ drop i old → set now i 0 ≡ zeros (i + 1) ++ drop (i + 1) old
-unfolding zeros
-cleared_more now old i h e = fill_more now old (λ _. 0) i 0 h refl e
-
-pub cleared-all : (now old : List ℕ) (i : ℕ) → i ≤ length old → length old ≤ i → now ≡ zeros i ++ drop i old → now ≡ zeros (length old)
-cleared-all now old i h g e =
-    let n : i ≡ length old = omega arith in
-    e ∙ rw (drop_of_length-le old g) (append-nil (zeros i) ∙ ap zeros n)
+-- the scheme of a number, as `unwrap_or` with LACE gives it
+pub scheme-is : (number : ℕ) {named : Option Scheme} {s : Scheme} → named ≡ own_number_names number → s ≡ unwrap_or named Lace → s ≡ scheme_of number
+unfolding scheme_of
+scheme-is number {named} names is = is ∙ named-or-lace named ∙ ap scheme_named names
 
 length-zeros : (n : ℕ) → length (zeros n) ≡ n
 unfolding zeros
@@ -74,7 +80,7 @@ module _ (reader scheme : ℕ) (text : List ℕ) (spelled : Spelled (entry reade
   entry-long = omega (arith, filled-long)
 
   -- its buffer, after it was cleared and its label was encoded into its room
-  module _ (old cleared part : List ℕ) {s : Scheme} (long : length old ≡ entry_length) (is : s ≡ scheme_of scheme) (clears : cleared ≡ zeros (length old)) (answer : BytesAnswer)
+  module _ (old cleared part : List ℕ) {s : Scheme} (long : length old ≡ entry_length) (is : s ≡ scheme_of scheme) (clears : cleared ≡ zeros (length old)) (answer : Result ByteCount Refusal)
       (answers : bytes_outcome answer ≡ encode_outcome s (length (take (length cleared - label_start) (drop label_start cleared))) text)
       (encodes : part ≡ buffer_after (encode_outcome s (length (take (length cleared - label_start) (drop label_start cleared))) text) (label_of s text) (take (length cleared - label_start) (drop label_start cleared))) where
     cleared-is : cleared ≡ zeros entry_length
@@ -128,36 +134,33 @@ written-total index least [] total e = cc
 written-total index least (x ∷ es) total e = written-total (suc index) (suc (reader_in x)) es total (both-done _ _ _ e).1
 
 -- the entries stored one by one: a turn, at the entry at index i, and the end
-module _ (readers schemes lengths points old : List ℕ) where
+module _ (list : EntryList) (old : List ℕ) where
   abbrev pub Putting : (table : List ℕ) (at i start : ℕ) → Type 0
-  Putting table at i start = StoringFrom header_length old (entries_bytes (entries_of readers schemes lengths points)) table at (entries_bytes (left readers schemes lengths points i start))
+  Putting table at i start = StoringFrom header_length old (entries_bytes (entries_in list)) table at (entries_bytes (left list i start))
 
-  module _ (rows : Rows readers schemes lengths points) (table : List ℕ) (at i start : ℕ) (more : i < length readers) where
-    pub spelled-next : AllSpelled (left readers schemes lengths points i start)
-        → Spelled (next readers schemes lengths points i start) × AllSpelled (left readers schemes lengths points (i + 1) (start + get_or lengths i 0))
-    spelled-next s = rw (left-next readers schemes lengths points rows i start more) at s
+  module _ (table : List ℕ) (at i start : ℕ) (more : i < length list.readers.now) where
+    pub spelled-next : AllSpelled (left list i start) → Spelled (next list i start) × AllSpelled (left list (i + 1) (start + get_or list.lengths.now i 0))
+    spelled-next s = rw (left-next list i start more) at s
 
-    pub put-turn : Putting table at i start → Spelled (next readers schemes lengths points i start) → at + entry_length ≤ length table → (piece : List ℕ)
-        → piece ≡ entry_bytes (next readers schemes lengths points i start)
-        → Putting (take at table ++ (piece ++ drop (at + entry_length - at) (drop at table))) (at + entry_length) (i + 1) (start + get_or lengths i 0)
+    pub put-turn : Putting table at i start → Spelled (next list i start) → at + entry_length ≤ length table → (piece : List ℕ) → piece ≡ entry_bytes (next list i start)
+        → Putting (take at table ++ (piece ++ drop (at + entry_length - at) (drop at table))) (at + entry_length) (i + 1) (start + get_or list.lengths.now i 0)
     unfolding entries_bytes
     put-turn s spelled fits piece is =
         let long : length piece ≡ entry_length = ap length is ∙ entry-long _ _ _ spelled in
-        let splits : entries_bytes (left readers schemes lengths points i start) ≡ piece ++ entries_bytes (left readers schemes lengths points (i + 1) (start + get_or lengths i 0))
-        = rw is (ap entries_bytes (left-next readers schemes lengths points rows i start more)) in
+        let splits : entries_bytes (left list i start) ≡ piece ++ entries_bytes (left list (i + 1) (start + get_or list.lengths.now i 0))
+        = rw is (ap entries_bytes (left-next list i start more)) in
         storing-piece s splits (stored-part table piece at (at + entry_length) (omega arith) fits)
 
-  pub put-end : (table : List ℕ) (at i start : ℕ) → at ≡ table_length (length readers) → length readers ≤ i → Putting table at i start
-      → Stored old header_length (entries_bytes (entries_of readers schemes lengths points)) table (table_length (length readers))
+  pub put-end : (table : List ℕ) (at i start : ℕ) → at ≡ table_length (length list.readers.now) → length list.readers.now ≤ i → Putting table at i start
+      → Stored old header_length (entries_bytes (entries_in list)) table (table_length (length list.readers.now))
   unfolding entries_bytes
-  put-end table at i start is h s = rw is at (storing-end s (rw (nothing_left readers schemes lengths points i start h)))
+  put-end table at i start is h s = rw is at (storing-end s (rw (nothing_left list i start h)))
 
   -- the header before them
-  pub table-stored : Rows readers schemes lengths points → {headed now : List ℕ} {end : ℕ} → headed ≡ sets old 0 (header_kind ∷ number_bytes (length readers))
-      → Stored headed header_length (entries_bytes (entries_of readers schemes lengths points)) now end
-      → Stored old 0 (table_of (entries_of readers schemes lengths points)) now end
+  pub table-stored : {headed now : List ℕ} {end : ℕ} → headed ≡ sets old 0 (header_kind ∷ number_bytes (length list.readers.now))
+      → Stored headed header_length (entries_bytes (entries_in list)) now end → Stored old 0 (table_of (entries_in list)) now end
   unfolding table_of number_bytes
-  table-stored rows {headed} is s =
-      let header : Stored old 0 (header_kind ∷ number_bytes (length readers)) headed header_length
-      = record { stores = is; count = refl; long = ap length is ∙ length-sets old 0 (header_kind ∷ number_bytes (length readers)) } in
-      rw (left-count readers schemes lengths points rows) (stored-append header s)
+  table-stored {headed} is s =
+      let header : Stored old 0 (header_kind ∷ number_bytes (length list.readers.now)) headed header_length
+      = record { stores = is; count = refl; long = ap length is ∙ length-sets old 0 (header_kind ∷ number_bytes (length list.readers.now)) } in
+      rw (left-count list) (stored-append header s)

@@ -1,9 +1,10 @@
 -- What private steps on a list answer and ask; no public promise cites it.
-use Rattle.std.specs.Prelude.{ℕ, ◌≤◌, ◌≡◌, Bool, true, false, List, [], ◌∷◌, length}
-use Rattle.basis.specs.Outcome.{Outcome, done, refused}
+use Rattle.std.specs.Prelude.{ℕ, ◌≤◌, ◌≡◌, List, [], ◌∷◌, length}
+use Rattle.std.specs.Coded.{le_prop, Coded-set, coded_ℕ}
+use Rattle.basis.specs.Outcome.{done}
 use Rattle.scheme.specs.Coding.{encode_outcome}
 use Rattle.nametable_format.specs.Format.{most_entries, label_capacity}
-use Rattle.nametable_write.specs.Writing.{Entry, entry, sum_of, list_tests, scheme_of}
+use Rattle.nametable_write.specs.Writing.{Entry, entry, sum_of, scheme_of}
 
 -- rows that list entries: at most 500, as many of each, and the points that the lengths sum to
 pub record Rows (readers schemes lengths points : List ℕ) : Type 0 where
@@ -12,11 +13,8 @@ pub record Rows (readers schemes lengths points : List ℕ) : Type 0 where
   pub measured : length lengths ≡ length readers
   pub summed : sum_of lengths ≡ length points
 
--- the rows of a list as they were tested: its tests are passed, whatever follows, or one refuses
-abbrev pub TestedRows : (readers schemes lengths points : List ℕ) → Bool → Type 0
-TestedRows readers schemes lengths points true =
-    ((next : Outcome) → list_tests readers schemes lengths points next ≡ next) × Rows readers schemes lengths points
-TestedRows readers schemes lengths points false = (next : Outcome) → list_tests readers schemes lengths points next ≡ refused 14 0
+pub Rows-prop : {readers schemes lengths points : List ℕ} → IsProp (Rows readers schemes lengths points)
+Rows-prop = hlevel (le_prop, Coded-set coded_ℕ)
 
 -- the label of an entry may be written
 abbrev pub Spelled : Entry → Type 0

@@ -21,6 +21,7 @@ fn digit_count(number: usize, base: usize) -> usize
 {
     let mut n = 0;
     let mut left = number;
+    // Kept as a `while`: it divides until nothing is left, and no index is counted.
     while 0 < left {
         n += 1;
         left = left / base;
@@ -36,7 +37,7 @@ pub(crate) fn digits_length(number: usize, base: usize, least: usize) -> usize
     ensures upper_bound { result ≤ 64 }
 {
     let n = digit_count(number, base);
-    if n < least { least } else { n }
+    n.max(least)
 }
 
 // Stores so many digits of a number at an index, the last one first, and answers the index after them.
@@ -53,10 +54,8 @@ pub(crate) fn put_fixed_digits(
     ensures { Stored out.old at (fixed_digits base count number) out.new result }
 {
     let end = at + count;
-    let mut j = end;
     let mut left = number;
-    while at < j {
-        j -= 1;
+    for j in (at..end).rev() {
         out[j] = digit_character(left % base);
         left = left / base;
     }

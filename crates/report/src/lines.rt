@@ -3,7 +3,7 @@ ghost use Rattle.std.specs.Prelude.{◌≡◌, ◌+◌, ◌≤◌, length};
 ghost use Rattle.basis.specs.Internal.{Stored};
 ghost use Rattle.report.specs.Lines.{points_line, list_line, word_number, refused_line, refused_at_line, side_refused_line, difference_line, counts_line};
 
-use crate::{digits, points, store};
+use crate::{Counts, digits, points, store};
 
 // Stores the line of a row of points at an index, and answers the index after it.
 pub(crate) fn put_points_line(points: &[u32], out: &mut [u8], at: usize) -> usize
@@ -93,37 +93,27 @@ pub(crate) fn put_difference_line(reader: u16, words: &[u8], out: &mut [u8]) -> 
 }
 
 // How many bytes the line of the five counts has.
-pub(crate) fn counts_length(
-    same: usize,
-    other: usize,
-    respelled: usize,
-    left: usize,
-    right: usize,
-) -> usize
-    ensures { result ≡ length (counts_line same other respelled left right) }
+pub(crate) fn counts_length(counts: Counts) -> usize
+    ensures { result ≡ length (counts_line counts.same counts.other counts.respelled counts.left counts.right) }
 {
-    let before = digits::digits_length(same, 10, 1) + digits::digits_length(other, 10, 1);
-    let sides = digits::digits_length(left, 10, 1) + digits::digits_length(right, 10, 1);
-    before + digits::digits_length(respelled, 10, 1) + sides + 37
+    let same = digits::digits_length(counts.same, 10, 1);
+    let other = digits::digits_length(counts.other, 10, 1);
+    let respelled = digits::digits_length(counts.respelled, 10, 1);
+    let left = digits::digits_length(counts.left, 10, 1);
+    let right = digits::digits_length(counts.right, 10, 1);
+    same + other + respelled + left + right + 37
 }
 
 // Stores the line of the five counts, and answers its length.
-pub(crate) fn put_counts_line(
-    same: usize,
-    other: usize,
-    respelled: usize,
-    left: usize,
-    right: usize,
-    out: &mut [u8],
-) -> usize
-    requires { length (counts_line same other respelled left right) ≤ length out.old }
-    ensures { Stored out.old 0 (counts_line same other respelled left right) out.new result }
+pub(crate) fn put_counts_line(counts: Counts, out: &mut [u8]) -> usize
+    requires { length (counts_line counts.same counts.other counts.respelled counts.left counts.right) ≤ length out.old }
+    ensures { Stored out.old 0 (counts_line counts.same counts.other counts.respelled counts.left counts.right) out.new result }
 {
-    let after_same = put_word_number(b"same", same, out, 0);
-    let after_other = put_word_number(b" other", other, out, after_same);
-    let after_respelled = put_word_number(b" respelled", respelled, out, after_other);
-    let after_left = put_word_number(b" left", left, out, after_respelled);
-    let after_right = put_word_number(b" right", right, out, after_left);
+    let after_same = put_word_number(b"same", counts.same, out, 0);
+    let after_other = put_word_number(b" other", counts.other, out, after_same);
+    let after_respelled = put_word_number(b" respelled", counts.respelled, out, after_other);
+    let after_left = put_word_number(b" left", counts.left, out, after_respelled);
+    let after_right = put_word_number(b" right", counts.right, out, after_left);
     out[after_right] = 10;
     after_right + 1
 }

@@ -18,19 +18,17 @@ pub(crate) fn points_length(points: &[u32], limit: usize) -> usize
     requires { limit < 2 ^ 63 }
     ensures { result ≡ min (limit + 1) (length (points_bytes points.now)) }
 {
-    if points.len() == 0 {
+    let [first, others @ ..] = points else {
         return 0;
-    }
-    let mut n = point_length(points[0]);
-    let mut i = 1;
-    while i < points.len() {
+    };
+    let mut n = point_length(*first);
+    for &point in others {
         if limit < n {
             return limit + 1;
         }
-        n += 1 + point_length(points[i]);
-        i += 1;
+        n += 1 + point_length(point);
     }
-    if limit < n { limit + 1 } else { n }
+    n.min(limit + 1)
 }
 
 // Stores a point at an index, and answers the index after it.
@@ -47,15 +45,13 @@ pub(crate) fn put_points(points: &[u32], out: &mut [u8], at: usize) -> usize
     requires { at + length (points_bytes points.now) ≤ length out.old }
     ensures { Stored out.old at (points_bytes points.now) out.new result }
 {
-    if points.len() == 0 {
+    let [first, others @ ..] = points else {
         return at;
-    }
-    let mut next = put_point(points[0], out, at);
-    let mut i = 1;
-    while i < points.len() {
+    };
+    let mut next = put_point(*first, out, at);
+    for &point in others {
         out[next] = 32;
-        next = put_point(points[i], out, next + 1);
-        i += 1;
+        next = put_point(point, out, next + 1);
     }
     next
 }

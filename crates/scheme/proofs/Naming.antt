@@ -1,5 +1,6 @@
 -- The directory's numbers, kinds and letters are distinct, so each is one scheme's own; its numbers
 -- are bytes; and which values name no scheme.
+use Rattle.std.proofs.Common.{Option, Some}
 use Prim.Native.Nat.{ℕ, ◌<◌}
 use mathlib.Core.Path.{◌≡◌, refl, sym, ap, ◌∙◌}
 use mathlib.Core.Bool.{Bool, true, not}
@@ -13,8 +14,6 @@ use Rattle.basis.proofs.Tests.{cases, true-not-false, fails-iff, both_left, both
 use Rattle.scheme.specs.Naming.{row_of, schemes, number_of, kind_of, letter_of, first_with, default_number, own_number_names, number_names, kind_names, is_known, scheme_named}
 use Rattle.scheme.specs.declared.Scheme.{Scheme}
 use Rattle.scheme.specs.declared.Scheme.TheVariants.{Altdude, Lace, Brace}
-use Rattle.scheme.specs.declared.Named.{Named}
-use Rattle.scheme.specs.declared.Named.TheVariants.{Known}
 
 -- no two of the schemes have the same value
 unfoldable distinct : (Scheme → ℕ) → List Scheme → Bool
@@ -42,14 +41,14 @@ unfolding schemes
 every-scheme = by-scheme (λ s. OneOf s schemes) (inl refl) (inr (inl refl)) (inr (inr (inl refl)))
 
 -- where the values are distinct, the first scheme with a scheme's value is that scheme
-own_value : (value_of : Scheme → ℕ) (list : List Scheme) → distinct value_of list ≡ true → (s : Scheme) → OneOf s list → first_with value_of (value_of s) list ≡ Known s
+own_value : (value_of : Scheme → ℕ) (list : List Scheme) → distinct value_of list ≡ true → (s : Scheme) → OneOf s list → first_with value_of (value_of s) list ≡ Some s
 unfolding distinct first_with is_known
 own_value value_of [] d s i = absurd i
 own_value value_of (t ∷ rest) d s (inl e) = rw e (rw (eq-eqb (value_of t) (value_of t) refl))
 own_value value_of (t ∷ rest) d s (inr i) =
     let later = own_value value_of rest (both_right _ _ d) s i in
     cases (eqb (value_of s) (value_of t))
-    (λ e. absurd (true-not-false (both_left _ _ d) (ap (λ (n : Named). not (is_known n)) (ap (λ (v : ℕ). first_with value_of v rest) (sym (eqb-true _ _ e)) ∙ later))))
+    (λ e. absurd (true-not-false (both_left _ _ d) (ap (λ (n : Option Scheme). not (is_known n)) (ap (λ (v : ℕ). first_with value_of v rest) (sym (eqb-true _ _ e)) ∙ later))))
     (λ e. rw e later)
 
 -- so a value is one scheme's alone
@@ -57,7 +56,7 @@ same-value : (value_of : Scheme → ℕ) → distinct value_of schemes ≡ true 
 same-value value_of d s t e =
     known_same (sym (own_value value_of schemes d s (every-scheme s)) ∙ ap (λ (v : ℕ). first_with value_of v schemes) e ∙ own_value value_of schemes d t (every-scheme t))
   where
-    known_same : {s t : Scheme} → Known s ≡ Known t → s ≡ t
+    known_same : {s t : Scheme} → Some s ≡ Some t → s ≡ t
     known_same e = cc
 
 pub same_number : (s t : Scheme) → number_of s ≡ number_of t → s ≡ t
@@ -69,11 +68,11 @@ unfolding number_of row_of
 number_small = by-scheme (λ s. number_of s < 256) (omega arith) (omega arith) (omega arith)
 
 -- a scheme's number and its kind name it
-pub number-names : (s : Scheme) → own_number_names (number_of s) ≡ Known s
+pub number-names : (s : Scheme) → own_number_names (number_of s) ≡ Some s
 unfolding own_number_names
 number-names s = own_value number_of schemes (both_left _ _ directory-distinct) s (every-scheme s)
 
-pub kind-names : (s : Scheme) → kind_names (kind_of s) ≡ Known s
+pub kind-names : (s : Scheme) → kind_names (kind_of s) ≡ Some s
 unfolding kind_names
 kind-names s = own_value kind_of schemes (both_left _ _ (both_right _ _ directory-distinct)) s (every-scheme s)
 

@@ -1,10 +1,8 @@
 -- The directory of schemes: the number, the kind of entry and the letter of each, and what they name.
-use Rattle.std.specs.Prelude.{ℕ, Bool, true, false, List, [], ◌∷◌, eqb}
+use Rattle.std.specs.Prelude.{ℕ, Bool, true, false, List, [], ◌∷◌, eqb, Option, Some, None}
 use Rattle.basis.specs.Tests.{pick}
 use Rattle.scheme.specs.declared.Scheme.{Scheme}
 use Rattle.scheme.specs.declared.Scheme.TheVariants.{Altdude, Lace, Brace}
-use Rattle.scheme.specs.declared.Named.{Named}
-use Rattle.scheme.specs.declared.Named.TheVariants.{Known, Unknown}
 
 -- a row of the directory: the scheme's number, the kind of its entries and its letter
 pub record Row : Type 0 where
@@ -36,32 +34,32 @@ unfoldable pub letter_of : Scheme → ℕ
 letter_of s = (row_of s).letter
 
 -- the first of the schemes that has this value
-unfoldable pub first_with : (Scheme → ℕ) → ℕ → List Scheme → Named
-first_with value_of value [] = Unknown
-first_with value_of value (s ∷ rest) = pick (eqb value (value_of s)) (Known s) (first_with value_of value rest)
+unfoldable pub first_with : (Scheme → ℕ) → ℕ → List Scheme → Option Scheme
+first_with value_of value [] = None
+first_with value_of value (s ∷ rest) = pick (eqb value (value_of s)) (Some s) (first_with value_of value rest)
 
 -- the number that 0 stands for, the house default: AltDUDE
 unfoldable pub default_number : ℕ
 default_number = 1
 
 -- the scheme that a number names by itself; 0 names none
-unfoldable pub own_number_names : ℕ → Named
+unfoldable pub own_number_names : ℕ → Option Scheme
 own_number_names number = first_with number_of number schemes
 
 -- the scheme that a number names; 0 names the default
-unfoldable pub number_names : ℕ → Named
+unfoldable pub number_names : ℕ → Option Scheme
 number_names number = pick (eqb number 0) (own_number_names default_number) (own_number_names number)
 
 -- the scheme that a kind of entry names
-unfoldable pub kind_names : ℕ → Named
+unfoldable pub kind_names : ℕ → Option Scheme
 kind_names kind = first_with kind_of kind schemes
 
 -- a scheme is named
-unfoldable pub is_known : Named → Bool
-is_known (Known scheme) = true
-is_known Unknown = false
+unfoldable pub is_known : Option Scheme → Bool
+is_known (Some scheme) = true
+is_known None = false
 
 -- the scheme that is named; where none is, which is always refused before, LACE is taken
-unfoldable pub scheme_named : Named → Scheme
-scheme_named (Known scheme) = scheme
-scheme_named Unknown = Lace
+unfoldable pub scheme_named : Option Scheme → Scheme
+scheme_named (Some scheme) = scheme
+scheme_named None = Lace

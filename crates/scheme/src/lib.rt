@@ -7,8 +7,8 @@ ghost use Rattle.utf16.specs.Answer.{points_outcome};
 ghost use Rattle.scheme.specs.Naming.{number_of, kind_of, letter_of, own_number_names, number_names, kind_names};
 ghost use Rattle.scheme.specs.Coding.{encode_outcome, decode_outcome, label_of, text_of};
 
-use basis::BytesAnswer;
-use utf16::PointsAnswer;
+use basis::{ByteCount, Refusal};
+use utf16::PointCount;
 
 // A scheme.
 #[derive(Clone, Copy)]
@@ -18,14 +18,8 @@ pub enum Scheme {
     Brace,
 }
 
-// What a number or a kind of entry names.
-#[derive(Drop)]
-pub enum Named {
-    Known(Scheme),
-    Unknown,
-}
-
 // The scheme's number.
+// Kept as functions: of number, kind and letter a `From` could not say which it gives, and kind and letter are both bytes.
 pub fn number(scheme: Scheme) -> u32
     ensures { result ≡ number_of scheme }
 {
@@ -62,24 +56,21 @@ pub fn letter(scheme: Scheme) -> u8
 const DEFAULT: u32 = 1;
 
 // The scheme that a number names by itself; 0 names none.
+// Kept as functions: this one and `of_number` take one type, and a `TryFrom` needs an error's type where `None` says all.
 #[tactic(auto, unfolding(crate::specs::Naming::own_number_names, crate::specs::Naming::first_with, crate::specs::Naming::schemes, crate::specs::Naming::number_of, crate::specs::Naming::row_of))]
-pub fn of_own_number(number: u32) -> Named
+pub fn of_own_number(number: u32) -> Option<Scheme>
     ensures { result ≡ own_number_names number }
 {
-    if number == 1 {
-        return Named::Known(Scheme::Altdude);
+    match number {
+        1 => Some(Scheme::Altdude),
+        2 => Some(Scheme::Lace),
+        3 => Some(Scheme::Brace),
+        _ => None,
     }
-    if number == 2 {
-        return Named::Known(Scheme::Lace);
-    }
-    if number == 3 {
-        return Named::Known(Scheme::Brace);
-    }
-    Named::Unknown
 }
 
 // The scheme that a number names; 0 names the default.
-pub fn of_number(number: u32) -> Named
+pub fn of_number(number: u32) -> Option<Scheme>
     ensures { result ≡ number_names number }
 {
     if number == 0 {
@@ -90,23 +81,19 @@ pub fn of_number(number: u32) -> Named
 
 // The scheme that a kind of entry names.
 #[tactic(auto, unfolding(crate::specs::Naming::kind_names, crate::specs::Naming::first_with, crate::specs::Naming::schemes, crate::specs::Naming::kind_of, crate::specs::Naming::row_of))]
-pub fn of_kind(kind: u8) -> Named
+pub fn of_kind(kind: u8) -> Option<Scheme>
     ensures { result ≡ kind_names kind }
 {
-    if kind == 0x41 {
-        return Named::Known(Scheme::Altdude);
+    match kind {
+        0x41 => Some(Scheme::Altdude),
+        0x4c => Some(Scheme::Lace),
+        0x42 => Some(Scheme::Brace),
+        _ => None,
     }
-    if kind == 0x4c {
-        return Named::Known(Scheme::Lace);
-    }
-    if kind == 0x42 {
-        return Named::Known(Scheme::Brace);
-    }
-    Named::Unknown
 }
 
 // Writes the label of a text under a scheme.
-pub fn encode(scheme: Scheme, text: &[u32], label: &mut [u8]) -> BytesAnswer
+pub fn encode(scheme: Scheme, text: &[u32], label: &mut [u8]) -> Result<ByteCount, Refusal>
     ensures result_value { bytes_outcome result ≡ encode_outcome scheme (length label.old) text.now }
     ensures label_after { label.new ≡ buffer_after (encode_outcome scheme (length label.old) text.now) (label_of scheme text.now) label.old }
 {
@@ -118,7 +105,7 @@ pub fn encode(scheme: Scheme, text: &[u32], label: &mut [u8]) -> BytesAnswer
 }
 
 // Reads the text of a label under a scheme.
-pub fn decode(scheme: Scheme, label: &[u8], text: &mut [u32]) -> PointsAnswer
+pub fn decode(scheme: Scheme, label: &[u8], text: &mut [u32]) -> Result<PointCount, Refusal>
     ensures result_value { points_outcome result ≡ decode_outcome scheme (length text.old) label.now }
     ensures text_after { text.new ≡ buffer_after (decode_outcome scheme (length text.old) label.now) (text_of scheme label.now) text.old }
 {

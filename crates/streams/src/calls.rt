@@ -1,11 +1,9 @@
 // Opening, reading and writing: calls that are made again after a signal, and their results.
-ghost use Rattle.std.specs.Prelude.{◌≡◌, ◌≢◌, ◌↔◌, ◌≤◌, length, take, IsTrue};
+ghost use Rattle.std.specs.Prelude.{◌≡◌, ◌↔◌, ◌≤◌, length, take, IsOk, IsTrue};
 ghost use Rattle.std.specs.Io.KnownBytes.{Appends, Keeps};
 ghost use Rattle.streams.specs.Calls.{IsInterrupted, read_answer};
-ghost use Rattle.streams.specs.declared.Ending.TheVariants.{Failed};
-ghost use Rattle.streams.specs.declared.ReadAnswer.TheVariants.{Over};
 
-use crate::{Ending, ReadAnswer};
+use crate::ReadFailed;
 use std::io::{ErrorKind, Write};
 use std::rt::Files;
 use std::{fs, io};
@@ -48,12 +46,14 @@ fn write_some<W: Write>(writer: &mut W, bytes: &[u8]) -> usize
     0
 }
 
-// Writes the bytes, and answers how many were written: all of them unless a write failed.
+// Writes the bytes, and answers how many were written: all of them unless a write failed. std's `write_all` does not say how many
+// a failed write has written, and `print` promises it.
 pub(crate) fn write_all<W: Write>(writer: &mut W, bytes: &[u8]) -> usize
     ensures count { result ≤ length bytes.now }
     ensures written { Appends (W.contents writer.old) (W.contents writer.new) (take result bytes.now) }
 {
     let mut done = 0;
+    // Kept as a `while`: a write goes on where the one before it ended.
     while done < bytes.len() {
         let n = write_some(writer, &bytes[done..]);
         if n == 0 {
@@ -65,21 +65,22 @@ pub(crate) fn write_all<W: Write>(writer: &mut W, bytes: &[u8]) -> usize
 }
 
 // Reports a failed read to the writer of errors.
-pub(crate) fn read_failed<E: Write>(errors: &mut E) -> ReadAnswer
-    ensures { result ≡ Over Failed }
-{
+pub(crate) fn read_failed<E: Write>(errors: &mut E) -> ReadFailed {
     write_all(errors, b"read failed\n");
-    ReadAnswer::Over(Ending::Failed)
+    ReadFailed
 }
 
 // What a read answers, by what the call answered.
-pub(crate) fn read_answer<E: Write>(errors: &mut E, moved: io::Result<usize>) -> ReadAnswer
+pub(crate) fn read_answer<E: Write>(
+    errors: &mut E,
+    moved: io::Result<usize>,
+) -> Result<Option<usize>, ReadFailed>
     ensures answer { result ≡ read_answer moved }
-    ensures silent { result ≢ Over Failed → Keeps (E.contents errors.old) (E.contents errors.new) }
+    ensures silent { IsOk result → Keeps (E.contents errors.old) (E.contents errors.new) }
 {
     match moved {
-        Err(_) => read_failed(errors),
-        Ok(0) => ReadAnswer::Over(Ending::End),
-        Ok(count) => ReadAnswer::Got(count),
+        Err(_) => Err(read_failed(errors)),
+        Ok(0) => Ok(None),
+        Ok(count) => Ok(Some(count)),
     }
 }

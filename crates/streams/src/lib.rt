@@ -7,45 +7,38 @@ mod calls;
 #[cfg(test)]
 mod tests;
 
-ghost use Rattle.std.specs.Prelude.{◌≡◌, ◌≢◌, ◌≤◌, length, take};
+ghost use Rattle.std.specs.Prelude.{◌≡◌, ◌≤◌, length, take, IsOk};
 ghost use Rattle.std.specs.Io.KnownBytes.{Appends, Keeps};
-ghost use Rattle.streams.specs.declared.Ending.TheVariants.{End, Failed};
-ghost use Rattle.streams.specs.declared.ReadAnswer.TheVariants.{Over};
 ghost use Rattle.streams.specs.Reading.{IsPrefixLen, ReadFits, ReadTakes, FillTakes, believed};
 
 use std::io::{Read, Write};
 use std::rt::{Env, Files};
 
-// How reading ended: the input did, or a read failed.
+// A read failed, and that was reported.
 #[derive(Clone, Copy)]
-pub enum Ending {
-    End,
-    Failed,
-}
+pub struct ReadFailed;
 
-// What a read answers: so many bytes in front of the buffer, or that reading is over.
-#[derive(Drop)]
-pub enum ReadAnswer {
-    Got(usize),
-    Over(Ending),
-}
-
-// What filling a buffer answers: so many bytes were read into it, and how reading ended.
+// What filling a buffer answers: so many bytes were read into it, and how reading ended. The count is not in `ending`, since both
+// endings have it: `FillTakes` says of a failed read too which bytes it took.
 #[derive(Drop)]
 pub struct Filled {
     pub count: usize,
-    pub ending: Ending,
+    pub ending: Result<(), ReadFailed>,
 }
 
-// Reads once into the front of the buffer. A failure is reported to the writer of errors.
-// With an empty buffer 0 bytes would be taken for the end of input: that fails too.
-pub fn read<R: Read, E: Write>(reader: &mut R, errors: &mut E, buffer: &mut [u8]) -> ReadAnswer
+// Reads once into the front of the buffer, and answers how many bytes, or nothing at the end of the input. A failure is
+// reported to the writer of errors. With an empty buffer 0 bytes would be taken for the end of input: that fails too.
+pub fn read<R: Read, E: Write>(
+    reader: &mut R,
+    errors: &mut E,
+    buffer: &mut [u8],
+) -> Result<Option<usize>, ReadFailed>
     ensures fits { ReadFits (length buffer.old) result }
     ensures taken { ReadTakes (R.remaining reader.old) (R.remaining reader.new) buffer.new result }
-    ensures silent { result ≢ Over Failed → Keeps (E.contents errors.old) (E.contents errors.new) }
+    ensures silent { IsOk result → Keeps (E.contents errors.old) (E.contents errors.new) }
 {
     if buffer.len() == 0 {
-        return calls::read_failed(errors);
+        return Err(calls::read_failed(errors));
     }
     for _ in 0..u64::MAX {
         let moved = reader.read(buffer);
@@ -53,7 +46,7 @@ pub fn read<R: Read, E: Write>(reader: &mut R, errors: &mut E, buffer: &mut [u8]
             return calls::read_answer(errors, moved);
         }
     }
-    calls::read_failed(errors)
+    Err(calls::read_failed(errors))
 }
 
 // Reads until the buffer is full, the input ends or a read fails. A full buffer is answered as the end of input: what
@@ -61,26 +54,25 @@ pub fn read<R: Read, E: Write>(reader: &mut R, errors: &mut E, buffer: &mut [u8]
 pub fn read_full<R: Read, E: Write>(reader: &mut R, errors: &mut E, buffer: &mut [u8]) -> Filled
     ensures count { IsPrefixLen result.count buffer.new }
     ensures taken { FillTakes (R.remaining reader.old) (R.remaining reader.new) buffer.new result }
-    ensures silent { result.ending ≡ End → Keeps (E.contents errors.old) (E.contents errors.new) }
+    ensures silent { IsOk result.ending → Keeps (E.contents errors.old) (E.contents errors.new) }
 {
     let mut done = 0;
+    // Kept as a `while`: a read goes on where the one before it ended.
     while done < buffer.len() {
-        let answer = read(reader, errors, &mut buffer[done..]);
-        match answer {
-            ReadAnswer::Over(ending) => {
+        match read(reader, errors, &mut buffer[done..]) {
+            Ok(Some(n)) => done += n,
+            Ok(None) => break,
+            Err(failed) => {
                 return Filled {
                     count: done,
-                    ending: ending,
+                    ending: Err(failed),
                 };
-            }
-            ReadAnswer::Got(n) => {
-                done += n;
             }
         }
     }
     Filled {
         count: done,
-        ending: Ending::End,
+        ending: Ok(()),
     }
 }
 
@@ -95,29 +87,27 @@ pub fn read_argument<H: Env + Files, E: Write>(
     buffer: &mut [u8],
 ) -> Filled
     ensures count { IsPrefixLen result.count buffer.new }
-    ensures silent { result.ending ≡ End → Keeps (E.contents errors.old) (E.contents errors.new) }
+    ensures silent { IsOk result.ending → Keeps (E.contents errors.old) (E.contents errors.new) }
 {
+    // Fixed memory, so a buffer for the most bytes there can be, and their count.
     let mut path = [0u8; 4096];
     let n = rt.arg(index, &mut path).unwrap_or(0);
-    match calls::open_file(rt, &path[..n]) {
-        None => {
-            calls::read_failed(errors);
-            Filled {
-                count: 0,
-                ending: Ending::Failed,
-            }
-        }
-        Some(mut file) => read_full(&mut file, errors, buffer),
-    }
+    let Some(mut file) = calls::open_file(rt, &path[..n]) else {
+        return Filled {
+            count: 0,
+            ending: Err(calls::read_failed(errors)),
+        };
+    };
+    read_full(&mut file, errors, buffer)
 }
 
 // The bytes that are believed of those that were read: all if the input ended, none if a read failed.
-pub fn believed_bytes(ending: Ending, bytes: &[u8]) -> &[u8]
+pub fn believed_bytes(ending: Result<(), ReadFailed>, bytes: &[u8]) -> &[u8]
     ensures { result.now ≡ believed ending bytes.now }
 {
     match ending {
-        Ending::End => bytes,
-        Ending::Failed => &bytes[..0],
+        Ok(()) => bytes,
+        Err(_) => &bytes[..0],
     }
 }
 

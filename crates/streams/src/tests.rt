@@ -105,7 +105,7 @@ fn input_is_not_believed_if_a_read_fails(rt: HostRuntime) {
 fn no_room_is_a_failed_read(rt: HostRuntime) {
     let mut errors = Vec::new(rt.alloc());
     let answer = read(&mut by_script(&[Step::Byte(7)]), &mut errors, &mut []);
-    assert!(rt; matches!(answer, ReadAnswer::Over(Ending::Failed)));
+    assert!(rt; answer.is_err());
     assert_eq!(rt; errors.as_slice(), b"read failed\n".as_slice());
 }
 
@@ -139,6 +139,6 @@ fn missing_argument_is_a_failed_read(rt: HostRuntime) {
     let mut buffer = [0u8; 3];
     let read = read_argument(&rt, &mut errors, 1000, &mut buffer);
     assert_eq!(rt; read.count, 0);
-    assert!(rt; matches!(read.ending, Ending::Failed));
+    assert!(rt; read.ending.is_err());
     assert_eq!(rt; errors.as_slice(), b"read failed\n".as_slice());
 }

@@ -7,25 +7,15 @@ ghost use Rattle.surrogates.specs.Points.{is_point, first_not_point};
 pub fn is_point(number: u32) -> bool
     ensures { result ≡ is_point number }
 {
-    if 0x10ffff < number {
-        return false;
-    }
-    if number < 0xd800 {
-        return true;
-    }
-    0xdfff < number
+    matches!(number, 0..=0xd7ff | 0xe000..=0x10ffff)
 }
 
 // The index of the first number that is no point, or the length.
 pub fn first_not_point(numbers: &[u32]) -> usize
     ensures { result ≡ first_not_point numbers.now }
 {
-    let mut i = 0;
-    while i < numbers.len() {
-        if !is_point(numbers[i]) {
-            return i;
-        }
-        i += 1;
-    }
-    i
+    numbers
+        .iter()
+        .position(|&number| !is_point(number))
+        .unwrap_or(numbers.len())
 }

@@ -1,5 +1,5 @@
 // Surrogates, and where a row of units has an unpaired one.
-ghost use Rattle.std.specs.Prelude.{◌≡◌, get_or};
+ghost use Rattle.std.specs.Prelude.{◌≡◌, ℕ, List, length, get_or};
 ghost use Rattle.surrogates.specs.Surrogates.{is_high, is_low, is_unpaired, first_unpaired};
 
 // Whether the unit is a high surrogate.
@@ -7,10 +7,7 @@ ghost use Rattle.surrogates.specs.Surrogates.{is_high, is_low, is_unpaired, firs
 pub fn is_high(unit: u16) -> bool
     ensures { result ≡ is_high unit }
 {
-    if unit < 0xd800 {
-        return false;
-    }
-    unit < 0xdc00
+    matches!(unit, 0xd800..=0xdbff)
 }
 
 // Whether the unit is a low surrogate.
@@ -18,10 +15,7 @@ pub fn is_high(unit: u16) -> bool
 pub fn is_low(unit: u16) -> bool
     ensures { result ≡ is_low unit }
 {
-    if unit < 0xdc00 {
-        return false;
-    }
-    unit < 0xe000
+    matches!(unit, 0xdc00..=0xdfff)
 }
 
 // Whether the unit is an unpaired surrogate between its neighbours.
@@ -37,26 +31,49 @@ pub fn is_unpaired(before: u16, unit: u16, after: u16) -> bool
     false
 }
 
-// The unit at an index, 0 past the end.
-fn unit_at(units: &[u16], i: usize) -> u16
-    ensures { result ≡ get_or units.now i 0 }
+// A row of units, held as they are or in another form.
+pub trait Units {
+    ghost units: { Self → List ℕ };
+
+    // How many units it has.
+    fn count(&self) -> usize
+        ensures { result ≡ length (units self.now) };
+
+    // The unit at an index, 0 past the end.
+    fn unit_at(&self, i: usize) -> u16
+        ensures { result ≡ get_or (units self.now) i 0 };
+}
+
+impl Units for &[u16] {
+    ghost units = { λ row. row.now };
+
+    fn count(&self) -> usize {
+        self.len()
+    }
+
+    fn unit_at(&self, i: usize) -> u16 {
+        self.get(i).copied().unwrap_or(0)
+    }
+}
+
+// The index of the first unpaired surrogate of a row in any form, or the number of units.
+pub fn first_unpaired_of<R: Units>(row: &R) -> usize
+    ensures { result ≡ first_unpaired (R.units row.now) }
 {
-    if i < units.len() { units[i] } else { 0 }
+    let mut before = 0;
+    for i in 0..row.count() {
+        let unit = row.unit_at(i);
+        if is_unpaired(before, unit, row.unit_at(i + 1)) {
+            return i;
+        }
+        before = unit;
+    }
+    row.count()
 }
 
 // The index of the first unpaired surrogate, or the length.
 pub fn first_unpaired(units: &[u16]) -> usize
     ensures { result ≡ first_unpaired units.now }
 {
-    let mut before = 0;
-    let mut i = 0;
-    while i < units.len() {
-        let unit = units[i];
-        if is_unpaired(before, unit, unit_at(units, i + 1)) {
-            return i;
-        }
-        before = unit;
-        i += 1;
-    }
-    i
+    first_unpaired_of(&units)
 }

@@ -1,5 +1,5 @@
 -- Laws on bytes that are received in chunks, one chunk after the other.
-use Prim.Native.Nat.{ℕ, ◌+◌, ◌-◌, ◌≤◌, ◌<◌}
+use Prim.Native.Nat.{ℕ, ◌+◌, ◌-◌, ◌≤◌, ◌<◌, min}
 use mathlib.Core.Path.{◌≡◌, sym, ◌∙◌}
 use mathlib.Core.List.{List}
 use lib.ListN.{length, get_or, take, drop, length-drop, drop_of_length-le}
@@ -12,15 +12,21 @@ use Rattle.nametable_receiver.specs.Receiving.{State, received, received_all}
 use Rattle.test_exports.specs.Chunks.{chunks_of}
 use Rattle.test_exports.specs.Internal.{end_of}
 
--- where a chunk ends, by what the code tested
+-- where a chunk ends: inside, or at the end
 module _ (start n total : ℕ) where
-  pub ends-inside : n < total - start → end_of start n total ≡ start + n
+  ends-inside : n < total - start → end_of start n total ≡ start + n
   unfolding end_of
   ends-inside h = rw (lt-ltb n (total - start) h)
 
-  pub ends-at-end : total - start ≤ n → end_of start n total ≡ total
+  ends-at-end : total - start ≤ n → end_of start n total ≡ total
   unfolding end_of
   ends-at-end h = rw (le-ltb n (total - start) h)
+
+  pub ends : (room : ℕ) → room ≡ min n (total - start) → start ≤ total → start + room ≡ end_of start n total
+  ends room is h =
+      by-lt n (total - start)
+      (λ l. omega (arith, ends-inside l))
+      (λ l. omega (arith, ends-at-end l))
 
 -- the chunk of this length, and what is left after it, by its end
 module _ (bytes : List ℕ) (start n : ℕ) (s : start ≤ length bytes) where

@@ -1,14 +1,53 @@
 // A function's answer, stored as five numbers: code (0 when done), position, count, reader number
 // and scheme number.
-ghost use Rattle.std.specs.Prelude.{◌≡◌, [], ◌∷◌};
-ghost use Rattle.basis.specs.Outcome.{number_of, bytes_outcome};
-ghost use Rattle.utf16.specs.Answer.{units_outcome, points_outcome};
-ghost use Rattle.nametable.specs.Answer.{table_outcome, entry_outcome};
+ghost use Rattle.std.specs.Prelude.{◌≡◌, ℕ, [], ◌∷◌};
+ghost use Rattle.basis.specs.Outcome.{number_of, outcome_by};
+ghost use Rattle.nametable.specs.Answer.{entry_outcome};
 ghost use Rattle.test_exports.specs.Answer.{numbers_of, entry_numbers_of, answer_after};
 
-use basis::{BytesAnswer, ErrorCode};
-use nametable::{EntryAnswer, TableAnswer};
-use utf16::{PointsAnswer, UnitsAnswer};
+use basis::{ByteCount, Refusal};
+use nametable::ReadEntry;
+use utf16::{PointCount, UnitCount};
+
+// How many of something, as a number.
+pub(crate) trait Count: Copy {
+    ghost number: { Self → ℕ };
+
+    fn number(self) -> usize
+        ensures { result ≡ number self };
+}
+
+impl Count for ByteCount {
+    ghost number = { λ count. count.0 };
+
+    fn number(self) -> usize {
+        self.0
+    }
+}
+
+impl Count for PointCount {
+    ghost number = { λ count. count.0 };
+
+    fn number(self) -> usize {
+        self.0
+    }
+}
+
+impl Count for UnitCount {
+    ghost number = { λ count. count.0 };
+
+    fn number(self) -> usize {
+        self.0
+    }
+}
+
+impl Count for usize {
+    ghost number = { λ count. count };
+
+    fn number(self) -> usize {
+        self
+    }
+}
 
 // Stores the five numbers, if the row has five elements or more.
 fn store(code: u32, position: usize, count: usize, reader: u16, scheme: u32, row: &mut [u64])
@@ -25,62 +64,35 @@ fn store(code: u32, position: usize, count: usize, reader: u16, scheme: u32, row
 }
 
 // Stores an error.
-fn store_error(code: ErrorCode, position: usize, row: &mut [u64])
-    ensures { row.new ≡ answer_after (number_of code ∷ position ∷ 0 ∷ 0 ∷ 0 ∷ []) row.old }
+fn store_error(refusal: Refusal, row: &mut [u64])
+    ensures { row.new ≡ answer_after (number_of refusal.code ∷ refusal.position ∷ 0 ∷ 0 ∷ 0 ∷ []) row.old }
 {
-    store(basis::code_number(code), position, 0, 0, 0, row);
+    store(u32::from(refusal.code), refusal.position, 0, 0, 0, row);
 }
 
-// Stores an answer in bytes.
-pub(crate) fn store_bytes(answer: BytesAnswer, row: &mut [u64])
-    ensures { row.new ≡ answer_after (numbers_of (bytes_outcome answer)) row.old }
+// Stores an answer that counts something.
+pub(crate) fn store_count<T: Count>(answer: Result<T, Refusal>, row: &mut [u64])
+    ensures { row.new ≡ answer_after (numbers_of (outcome_by T.number answer)) row.old }
 {
     match answer {
-        BytesAnswer::Bytes(count) => store(0, 0, count.0, 0, 0, row),
-        BytesAnswer::Error { code, position } => store_error(code, position, row),
-    }
-}
-
-// Stores an answer in points.
-pub(crate) fn store_points(answer: PointsAnswer, row: &mut [u64])
-    ensures { row.new ≡ answer_after (numbers_of (points_outcome answer)) row.old }
-{
-    match answer {
-        PointsAnswer::Points(count) => store(0, 0, count.0, 0, 0, row),
-        PointsAnswer::Error { code, position } => store_error(code, position, row),
-    }
-}
-
-// Stores an answer in units.
-pub(crate) fn store_units(answer: UnitsAnswer, row: &mut [u64])
-    ensures { row.new ≡ answer_after (numbers_of (units_outcome answer)) row.old }
-{
-    match answer {
-        UnitsAnswer::Units(count) => store(0, 0, count.0, 0, 0, row),
-        UnitsAnswer::Error { code, position } => store_error(code, position, row),
-    }
-}
-
-// Stores an answer in entries.
-pub(crate) fn store_table(answer: TableAnswer, row: &mut [u64])
-    ensures { row.new ≡ answer_after (numbers_of (table_outcome answer)) row.old }
-{
-    match answer {
-        TableAnswer::Entries(count) => store(0, 0, count, 0, 0, row),
-        TableAnswer::Error { code, position } => store_error(code, position, row),
+        Ok(count) => store(0, 0, count.number(), 0, 0, row),
+        Err(refusal) => store_error(refusal, row),
     }
 }
 
 // Stores an answer with an entry.
-pub(crate) fn store_entry(answer: EntryAnswer, row: &mut [u64])
+pub(crate) fn store_entry(answer: Result<ReadEntry, Refusal>, row: &mut [u64])
     ensures { row.new ≡ answer_after (entry_numbers_of (entry_outcome answer)) row.old }
 {
     match answer {
-        EntryAnswer::Entry {
-            reader,
-            scheme,
-            count,
-        } => store(0, 0, count.0, reader, scheme::number(scheme), row),
-        EntryAnswer::Error { code, position } => store_error(code, position, row),
+        Ok(entry) => store(
+            0,
+            0,
+            entry.count.0,
+            entry.reader,
+            scheme::number(entry.scheme),
+            row,
+        ),
+        Err(refusal) => store_error(refusal, row),
     }
 }

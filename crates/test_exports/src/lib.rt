@@ -40,7 +40,7 @@ pub extern "C" fn test_to_units(points: &[u32], count: usize, units: &mut [u16],
     ensures units_after { units.new ≡ buffer_after (to_units_outcome points.now count (length units.old)) (to_units (take count points.now)) units.old }
     ensures answer_after { answer.new ≡ answer_after (numbers_of (to_units_outcome points.now count (length units.old))) answer.old }
 {
-    answers::store_units(utf16::to_units(points, PointCount(count), units), answer);
+    answers::store_count(utf16::to_units(points, PointCount(count), units), answer);
 }
 
 // Exports `utf16::to_points`.
@@ -54,7 +54,7 @@ pub extern "C" fn test_to_points(
     ensures points_after { points.new ≡ buffer_after (to_points_outcome units.now count (length points.old)) (to_points (take count units.now)) points.old }
     ensures answer_after { answer.new ≡ answer_after (numbers_of (to_points_outcome units.now count (length points.old))) answer.old }
 {
-    answers::store_points(utf16::to_points(units, UnitCount(count), points), answer);
+    answers::store_count(utf16::to_points(units, UnitCount(count), points), answer);
 }
 
 // Exports `altdude::encode`.
@@ -63,7 +63,7 @@ pub extern "C" fn test_altdude_encode(text: &[u32], label: &mut [u8], answer: &m
     ensures label_after { label.new ≡ buffer_after (altdude_encode_outcome (length label.old) text.now) (altdude_label_of text.now) label.old }
     ensures answer_after { answer.new ≡ answer_after (numbers_of (altdude_encode_outcome (length label.old) text.now)) answer.old }
 {
-    answers::store_bytes(altdude::encode(text, label), answer);
+    answers::store_count(altdude::encode(text, label), answer);
 }
 
 // Exports `altdude::decode`.
@@ -72,7 +72,7 @@ pub extern "C" fn test_altdude_decode(label: &[u8], text: &mut [u32], answer: &m
     ensures text_after { text.new ≡ buffer_after (altdude_decode_outcome (length text.old) label.now) (altdude_text_of label.now) text.old }
     ensures answer_after { answer.new ≡ answer_after (numbers_of (altdude_decode_outcome (length text.old) label.now)) answer.old }
 {
-    answers::store_points(altdude::decode(label, text), answer);
+    answers::store_count(altdude::decode(label, text), answer);
 }
 
 // Exports `lace::encode`.
@@ -81,7 +81,7 @@ pub extern "C" fn test_lace_encode(text: &[u32], label: &mut [u8], answer: &mut 
     ensures label_after { label.new ≡ buffer_after (lace_encode_outcome is_host_label (length label.old) text.now) (lace_label_of text.now) label.old }
     ensures answer_after { answer.new ≡ answer_after (numbers_of (lace_encode_outcome is_host_label (length label.old) text.now)) answer.old }
 {
-    answers::store_bytes(lace::encode(text, label), answer);
+    answers::store_count(lace::encode(text, label), answer);
 }
 
 // Exports `lace::decode`.
@@ -90,7 +90,7 @@ pub extern "C" fn test_lace_decode(label: &[u8], text: &mut [u32], answer: &mut 
     ensures text_after { text.new ≡ buffer_after (lace_decode_outcome is_host_label (length text.old) label.now) (lace_text_of label.now) text.old }
     ensures answer_after { answer.new ≡ answer_after (numbers_of (lace_decode_outcome is_host_label (length text.old) label.now)) answer.old }
 {
-    answers::store_points(lace::decode(label, text), answer);
+    answers::store_count(lace::decode(label, text), answer);
 }
 
 // Exports `altdude::encode_marked`.
@@ -104,7 +104,7 @@ pub extern "C" fn test_altdude_encode_marked(
     ensures label_after { label.new ≡ buffer_after (altdude_encode_marked_outcome (length label.old) text.now marks.now) (marked marks.now (altdude_label_of text.now)) label.old }
     ensures answer_after { answer.new ≡ answer_after (numbers_of (altdude_encode_marked_outcome (length label.old) text.now marks.now)) answer.old }
 {
-    answers::store_bytes(altdude::encode_marked(text, marks, label), answer);
+    answers::store_count(altdude::encode_marked(text, marks, label), answer);
 }
 
 // Exports `altdude::decode_marked`.
@@ -119,7 +119,7 @@ pub extern "C" fn test_altdude_decode_marked(
     ensures marks_after { marks.new ≡ buffer_after (altdude_decode_marked_outcome (length text.old) (length marks.old) label.now) (altdude_marks_of label.now) marks.old }
     ensures answer_after { answer.new ≡ answer_after (numbers_of (altdude_decode_marked_outcome (length text.old) (length marks.old) label.now)) answer.old }
 {
-    answers::store_points(altdude::decode_marked(label, text, marks), answer);
+    answers::store_count(altdude::decode_marked(label, text, marks), answer);
 }
 
 // Exports `lace::encode_marked`.
@@ -133,7 +133,7 @@ pub extern "C" fn test_lace_encode_marked(
     ensures label_after { label.new ≡ buffer_after (lace_encode_marked_outcome is_host_label (length label.old) text.now marks.now) (lace_label_of text.now) label.old }
     ensures answer_after { answer.new ≡ answer_after (numbers_of (lace_encode_marked_outcome is_host_label (length label.old) text.now marks.now)) answer.old }
 {
-    answers::store_bytes(lace::encode_marked(text, marks, label), answer);
+    answers::store_count(lace::encode_marked(text, marks, label), answer);
 }
 
 // Exports `lace::decode_marked`.
@@ -148,7 +148,7 @@ pub extern "C" fn test_lace_decode_marked(
     ensures marks_after { marks.new ≡ buffer_after (lace_decode_marked_outcome is_host_label (length text.old) (length marks.old) label.now) (lace_marks_of label.now) marks.old }
     ensures answer_after { answer.new ≡ answer_after (numbers_of (lace_decode_marked_outcome is_host_label (length text.old) (length marks.old) label.now)) answer.old }
 {
-    answers::store_points(lace::decode_marked(label, text, marks), answer);
+    answers::store_count(lace::decode_marked(label, text, marks), answer);
 }
 
 // Exports `brace::encode`.
@@ -157,7 +157,7 @@ pub extern "C" fn test_brace_encode(units: &[u16], label: &mut [u8], answer: &mu
     ensures label_after { label.new ≡ buffer_after (brace_encode_outcome (length label.old) units.now) (brace_label_of units.now) label.old }
     ensures answer_after { answer.new ≡ answer_after (numbers_of (brace_encode_outcome (length label.old) units.now)) answer.old }
 {
-    answers::store_bytes(brace::encode(units, label), answer);
+    answers::store_count(brace::encode(units, label), answer);
 }
 
 // Exports `brace::decode`.
@@ -166,7 +166,7 @@ pub extern "C" fn test_brace_decode(label: &[u8], units: &mut [u16], answer: &mu
     ensures units_after { units.new ≡ buffer_after (brace_decode_outcome (length units.old) label.now) (brace_text_of label.now) units.old }
     ensures answer_after { answer.new ≡ answer_after (numbers_of (brace_decode_outcome (length units.old) label.now)) answer.old }
 {
-    answers::store_units(brace::decode(label, units), answer);
+    answers::store_count(brace::decode(label, units), answer);
 }
 
 // Exports `host_name::encode`.
@@ -175,7 +175,7 @@ pub extern "C" fn test_name_encode(text: &[u32], name: &mut [u8], answer: &mut [
     ensures name_after { name.new ≡ buffer_after (name_encode_outcome (length name.old) text.now) (name_of text.now) name.old }
     ensures answer_after { answer.new ≡ answer_after (numbers_of (name_encode_outcome (length name.old) text.now)) answer.old }
 {
-    answers::store_bytes(host_name::encode(text, name), answer);
+    answers::store_count(host_name::encode(text, name), answer);
 }
 
 // Exports `host_name::decode`.
@@ -184,7 +184,7 @@ pub extern "C" fn test_name_decode(name: &[u8], text: &mut [u32], answer: &mut [
     ensures text_after { text.new ≡ buffer_after (name_decode_outcome (length text.old) name.now) (text_of_name name.now) text.old }
     ensures answer_after { answer.new ≡ answer_after (numbers_of (name_decode_outcome (length text.old) name.now)) answer.old }
 {
-    answers::store_points(host_name::decode(name, text), answer);
+    answers::store_count(host_name::decode(name, text), answer);
 }
 
 // Exports `nametable::read`.
@@ -192,7 +192,7 @@ pub extern "C" fn test_name_decode(name: &[u8], text: &mut [u32], answer: &mut [
 pub extern "C" fn test_table_read(table: &[u8], answer: &mut [u64])
     ensures { answer.new ≡ answer_after (numbers_of (read_outcome table.now)) answer.old }
 {
-    answers::store_table(nametable::read(table), answer);
+    answers::store_count(nametable::read(table), answer);
 }
 
 // Exports `nametable_receiver`: a used receiver is restarted, takes chunks of these lengths, and is
@@ -201,7 +201,7 @@ pub extern "C" fn test_table_read(table: &[u8], answer: &mut [u64])
 pub extern "C" fn test_receive(lengths: &[usize], bytes: &[u8], answer: &mut [u64])
     ensures { answer.new ≡ answer_after (numbers_of (verdict_of (received_all fresh (chunks_of lengths.now bytes.now)))) answer.old }
 {
-    answers::store_table(receiving::in_chunks(lengths, bytes), answer);
+    answers::store_count(receiving::in_chunks(lengths, bytes), answer);
 }
 
 // Exports `nametable::entry`.
@@ -218,7 +218,7 @@ pub extern "C" fn test_table_entry(table: &[u8], index: usize, text: &mut [u32],
 pub extern "C" fn test_table_header(kind: u8, table: &[u8], answer: &mut [u64])
     ensures { answer.new ≡ answer_after (numbers_of (header_outcome kind table.now)) answer.old }
 {
-    answers::store_table(nametable::header(kind, table), answer);
+    answers::store_count(nametable::header(kind, table), answer);
 }
 
 // Exports `nametable::lone_entry`.
@@ -263,7 +263,7 @@ pub extern "C" fn test_table_write(
     ensures table_after { table.new ≡ buffer_after (write_outcome (length table.old) readers.now schemes.now lengths.now points.now) (table_of (entries_of readers.now schemes.now lengths.now points.now)) table.old }
     ensures answer_after { answer.new ≡ answer_after (numbers_of (write_outcome (length table.old) readers.now schemes.now lengths.now points.now)) answer.old }
 {
-    answers::store_bytes(
+    answers::store_count(
         nametable::write(readers, schemes, lengths, points, table),
         answer,
     );
@@ -274,7 +274,7 @@ pub extern "C" fn test_table_write(
 pub extern "C" fn test_short_read(table: &[u8], answer: &mut [u64])
     ensures { answer.new ≡ answer_after (numbers_of (short_read_outcome table.now)) answer.old }
 {
-    answers::store_table(nametable_short::read(table), answer);
+    answers::store_count(nametable_short::read(table), answer);
 }
 
 // Exports `nametable_short::entry`.
@@ -292,7 +292,7 @@ pub extern "C" fn test_to_short(table: &[u8], short: &mut [u8], answer: &mut [u6
     ensures short_after { short.new ≡ buffer_after (to_short_outcome table.now (length short.old)) (to_short table.now) short.old }
     ensures answer_after { answer.new ≡ answer_after (numbers_of (to_short_outcome table.now (length short.old))) answer.old }
 {
-    answers::store_bytes(nametable_short::to_short(table, short), answer);
+    answers::store_count(nametable_short::to_short(table, short), answer);
 }
 
 // Exports `nametable_short::to_long`.
@@ -301,7 +301,7 @@ pub extern "C" fn test_to_long(short: &[u8], table: &mut [u8], answer: &mut [u64
     ensures table_after { table.new ≡ buffer_after (to_long_outcome short.now (length table.old)) (to_long short.now) table.old }
     ensures answer_after { answer.new ≡ answer_after (numbers_of (to_long_outcome short.now (length table.old))) answer.old }
 {
-    answers::store_bytes(nametable_short::to_long(short, table), answer);
+    answers::store_count(nametable_short::to_long(short, table), answer);
 }
 
 // Exports `nametable_differences::write_report`.
@@ -310,7 +310,7 @@ pub extern "C" fn test_table_diff(left: &[u8], right: &[u8], sheet: &mut [u8], a
     ensures sheet_after { sheet.new ≡ buffer_after (report_outcome left.now right.now (length sheet.old)) (report_of left.now right.now) sheet.old }
     ensures answer_after { answer.new ≡ answer_after (numbers_of (report_outcome left.now right.now (length sheet.old))) answer.old }
 {
-    answers::store_bytes(
+    answers::store_count(
         nametable_differences::write_report(left, right, sheet),
         answer,
     );

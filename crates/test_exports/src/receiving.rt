@@ -6,7 +6,7 @@ ghost use Rattle.nametable_receiver.specs.Receiving.{state_of, fresh, received, 
 ghost use Rattle.test_exports.specs.Chunks.{chunks_of};
 ghost use Rattle.test_exports.specs.Internal.{end_of};
 
-use nametable::TableAnswer;
+use basis::Refusal;
 use nametable_format::{ENTRY_LENGTH, HEADER_LENGTH};
 use nametable_receiver::Receiver;
 
@@ -29,7 +29,7 @@ fn start_again(state: Receiver) -> Receiver
 }
 
 // Lends a receiver to `finish`.
-fn ask(state: Receiver) -> TableAnswer
+fn ask(state: Receiver) -> Result<usize, Refusal>
     ensures { table_outcome result ≡ verdict_of (state_of state) }
 {
     nametable_receiver::finish(&state)
@@ -40,10 +40,7 @@ fn end_of(start: usize, length: usize, total: usize) -> usize
     requires { start ≤ total }
     ensures { (result ≡ end_of start length total) × (start ≤ result) × (result ≤ total) }
 {
-    if length < total - start {
-        return start + length;
-    }
-    total
+    start + length.min(total - start)
 }
 
 // A receiver that was used: it took the first bytes, up to a header and an entry.
@@ -56,17 +53,15 @@ fn begun(bytes: &[u8]) -> Receiver
 
 // Starts a used receiver again, so that `restart` is run too, has it take the chunks of these lengths,
 // and answers the verdict.
-pub(crate) fn in_chunks(lengths: &[usize], bytes: &[u8]) -> TableAnswer
+pub(crate) fn in_chunks(lengths: &[usize], bytes: &[u8]) -> Result<usize, Refusal>
     ensures { table_outcome result ≡ verdict_of (received_all fresh (chunks_of lengths.now bytes.now)) }
 {
     let mut state = start_again(begun(bytes));
     let mut start = 0;
-    let mut i = 0;
-    while i < lengths.len() {
-        let end = end_of(start, lengths[i], bytes.len());
+    for &length in lengths {
+        let end = end_of(start, length, bytes.len());
         state = take_chunk(state, &bytes[start..end]);
         start = end;
-        i += 1;
     }
     ask(state)
 }

@@ -1,9 +1,10 @@
 -- Laws on units as bytes: elements, lengths, bounds, and that each conversion undoes the other.
-use Prim.Native.Nat.{ℕ, zero, suc, ◌+◌, ◌*◌, ◌-◌, ◌/◌, ◌%◌, ◌<◌}
+use Prim.Native.Nat.{ℕ, zero, suc, ◌+◌, ◌*◌, ◌-◌, ◌/◌, ◌%◌, ◌^◌, ◌<◌}
 use mathlib.Core.Path.{◌≡◌, refl, ap, ap₂}
 use mathlib.Core.List.{List, [], ◌∷◌, ◌++◌}
 use lib.ListN.{length, get_or, take}
 use native.Mathlib.Omega.{arith}
+use Rattle.std.specs.Int.{w16, to_be_bytes}
 use Rattle.basis.specs.Rows.{AllBelow}
 use Rattle.basis.proofs.Lists.{below_none, below_more, below-tail}
 use Rattle.utf16.specs.Bytes.{units_of_bytes, bytes_of_units}
@@ -18,6 +19,13 @@ pub length-bytes_of_units : (units : List ℕ) → length (bytes_of_units units)
 unfolding bytes_of_units
 length-bytes_of_units [] = refl
 length-bytes_of_units (unit ∷ units) = let e = length-bytes_of_units units in omega arith
+
+-- the bytes of a unit, as the library has them
+pub pair-bytes : (unit : ℕ) → unit < 2 ^ 16 → bytes_of_units (unit ∷ []) ≡ to_be_bytes w16 unit
+unfolding bytes_of_units
+pair-bytes unit h =
+    let e : unit / 256 % 256 ≡ unit / 256 = omega arith in
+    rw e
 
 -- the unit at an index is made of the two bytes from twice the index on
 pub at-units_of_bytes : (bytes : List ℕ) (i : ℕ) → i < length bytes / 2 → get_or (units_of_bytes bytes) i 0 ≡ get_or bytes (2 * i) 0 * 256 + get_or bytes (2 * i + 1) 0

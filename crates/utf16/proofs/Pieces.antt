@@ -3,11 +3,11 @@ use Prim.Native.Nat.{ℕ, zero, suc, ◌+◌, ◌*◌, ◌≤◌, ◌<◌}
 use mathlib.Core.Path.{◌≡◌, ap, ◌∙◌}
 use mathlib.Core.List.{List, [], ◌∷◌, ◌++◌}
 use lib.ListN.{length, get_or, drop, length-append, drop_of_length-le}
-use lib.Seq.{sets, drop-cons}
+use lib.Seq.{drop-cons}
 use native.Mathlib.Nat.{mul-suc}
 use native.Mathlib.Numerals.{add-one}
 use native.Mathlib.Omega.{arith}
-use Rattle.basis.proofs.Stores.{Storing, storing-all, storing-more, storing-none}
+use Rattle.basis.proofs.Stores.{Storing, Stored, storing-all, storing-piece, storing-none}
 
 -- a row of n pieces of at most `most` numbers each, by what is left of it from each index on
 pub record Pieces (n most : ℕ) (piece rest : ℕ → List ℕ) : Type 0 where
@@ -38,12 +38,11 @@ module _ {n most : ℕ} {piece rest : ℕ → List ℕ} (p : Pieces n most piece
   putting-none old = record { left = storing-all old (rest 0); inside = omega arith; few = omega arith }
 
   module _ {old now : List ℕ} {at i : ℕ} (s : Putting n most rest old now at i) where
-    pub putting-more : i < n → (more : List ℕ) (next : ℕ) → more ≡ sets now at (piece i) → next ≡ at + length (piece i)
-        → Putting n most rest old more next (i + 1)
-    putting-more h more next m e = record {
-      left = storing-more _ _ _ _ _ s.left (piece i) (rest (i + 1)) (p.more i h) more next m e;
+    pub putting-more : i < n → {more : List ℕ} {next : ℕ} → Stored now at (piece i) more next → Putting n most rest old more next (i + 1)
+    putting-more h t = record {
+      left = storing-piece s.left (p.more i h) t;
       inside = omega arith;
-      few = rw (add-one, mul-suc) (omega (arith, s.few, p.few i));
+      few = rw (add-one, mul-suc) (omega (arith, t.count, s.few, p.few i));
     }
 
     pub putting-all : n ≤ i → most * n ≤ length old → (at ≡ length (rest 0)) × (now ≡ rest 0 ++ drop (length (rest 0)) old)

@@ -1,53 +1,55 @@
 -- The pieces that the conversions store, and what one element stores.
 use Prim.Native.Nat.{ℕ, suc, ◌+◌, ◌≤◌, ◌<◌}
-use mathlib.Core.Path.{◌≡◌, refl, sym, ap, ◌∙◌}
+use mathlib.Core.Path.{◌≡◌, refl, ap, ◌∙◌}
 use mathlib.Core.Bool.{true, false}
 use mathlib.Core.List.{List, [], ◌∷◌, ◌++◌}
 use lib.Dec.{ltb}
 use lib.ListN.{length, get_or, drop, set, drop_of_length-le}
-use lib.Seq.{sets, drop-cons}
+use lib.Seq.{drop-cons}
 use native.Mathlib.Numerals.{add-one}
 use native.Mathlib.Omega.{arith}
 use Rattle.basis.proofs.Tests.{cases}
-use Rattle.basis.proofs.Stores.{sets-append}
+use Rattle.basis.proofs.Stores.{Stored, stored-none, stored_one, stored-append}
 use Rattle.utf16.specs.Units.{is_high, is_low, high_of, low_of, pair_of, units_of, to_units, point_of, points_after, to_points}
 use Rattle.utf16.specs.Bytes.{bytes_of_units, bytes_of}
 use Rattle.utf16.proofs.Surrogates.{units_small, units-big, point-high, point-low, point-plain, length-units_of, length-point_of}
 use Rattle.utf16.proofs.BytePairs.{length-bytes_of_units, bytes_of_units-append}
 use Rattle.utf16.proofs.Pieces.{Pieces, Putting, putting-none, putting-more, putting-all, each-pieces}
 
--- the units of a point stored from index at on, and the index after them
+-- the units of a point stored from index at on
 module _ (buffer : List ℕ) (at p : ℕ) where
-  pub put_small : p < 0x10000 → (at + 1 ≡ at + length (units_of p [])) × (set buffer at p ≡ sets buffer at (units_of p []))
-  put_small h = rw (units_small p [] h) (refl, refl)
+  pub put_small : p < 0x10000 → Stored buffer at (units_of p []) (set buffer at p) (at + 1)
+  put_small h = rw (units_small p [] h) (stored_one _ _ _)
 
   pub put-big : 0x10000 ≤ p → (high low : ℕ) → high ≡ high_of p → low ≡ low_of p
-      → (at + 2 ≡ at + length (units_of p [])) × (set (set buffer at high) (at + 1) low ≡ sets buffer at (units_of p []))
-  put-big h high low u d = rw (units-big p [] h, u, d, add-one) (refl, refl)
+      → Stored buffer at (units_of p []) (set (set buffer at high) (at + 1) low) (at + 2)
+  put-big h high low u d =
+      let e : at + 2 ≡ at + 1 + 1 = omega arith in
+      rw (units-big p [] h, ← u, ← d, e) (stored-append (stored_one _ _ _) (stored_one _ _ _))
 
   -- the same of their bytes
-  pub put-small-bytes : p < 0x10000 → (now : List ℕ) → now ≡ sets buffer at (bytes_of_units (p ∷ []))
-      → (at + 2 ≡ at + length (bytes_of_units (units_of p []))) × (now ≡ sets buffer at (bytes_of_units (units_of p [])))
-  unfolding bytes_of_units
-  put-small-bytes h now e = rw (units_small p [] h) (refl, e)
+  pub put-small-bytes : p < 0x10000 → {now : List ℕ} → Stored buffer at (bytes_of_units (p ∷ [])) now (at + 2)
+      → Stored buffer at (bytes_of_units (units_of p [])) now (at + 2)
+  put-small-bytes h s = rw (units_small p [] h) s
 
   pub put-big-bytes : 0x10000 ≤ p → (high low : ℕ) → high ≡ high_of p → low ≡ low_of p
-      → (between now : List ℕ) → between ≡ sets buffer at (bytes_of_units (high ∷ [])) → now ≡ sets between (at + 2) (bytes_of_units (low ∷ []))
-      → (at + 4 ≡ at + length (bytes_of_units (units_of p []))) × (now ≡ sets buffer at (bytes_of_units (units_of p [])))
+      → {between now : List ℕ} → Stored buffer at (bytes_of_units (high ∷ [])) between (at + 2) → Stored between (at + 2) (bytes_of_units (low ∷ [])) now (at + 2 + 2)
+      → Stored buffer at (bytes_of_units (units_of p [])) now (at + 4)
   unfolding bytes_of_units
-  put-big-bytes h high low u d between now b e =
-      rw (units-big p [] h, ← u, ← d) (refl, e ∙ rw b (sym (sets-append buffer at (bytes_of_units (high ∷ [])) (bytes_of_units (low ∷ [])))))
+  put-big-bytes h high low u d s t =
+      let e : at + 4 ≡ at + 2 + 2 = omega arith in
+      rw (units-big p [] h, ← u, ← d, e) (stored-append s t)
 
--- the point that a unit ends stored at index at, and the index after it
+-- the point that a unit ends stored at index at
 module _ (buffer : List ℕ) (at before u : ℕ) where
-  pub put-none : is_high u ≡ true → (at ≡ at + length (point_of before u [])) × (buffer ≡ sets buffer at (point_of before u []))
-  put-none h = rw (point-high before u [] h) (omega arith, refl)
+  pub put-none : is_high u ≡ true → Stored buffer at (point_of before u []) buffer at
+  put-none h = rw (point-high before u [] h) (stored-none _ _)
 
-  pub put-pair : is_low u ≡ true → (at + 1 ≡ at + length (point_of before u [])) × (set buffer at (pair_of before u) ≡ sets buffer at (point_of before u []))
-  put-pair l = rw (point-low before u [] l) (refl, refl)
+  pub put-pair : is_low u ≡ true → Stored buffer at (point_of before u []) (set buffer at (pair_of before u)) (at + 1)
+  put-pair l = rw (point-low before u [] l) (stored_one _ _ _)
 
-  pub put-plain : is_high u ≡ false → is_low u ≡ false → (at + 1 ≡ at + length (point_of before u [])) × (set buffer at u ≡ sets buffer at (point_of before u []))
-  put-plain h l = rw (point-plain before u [] h l) (refl, refl)
+  pub put-plain : is_high u ≡ false → is_low u ≡ false → Stored buffer at (point_of before u []) (set buffer at u) (at + 1)
+  put-plain h l = rw (point-plain before u [] h l) (stored_one _ _ _)
 
 -- the units of a point, and the point that a unit ends, before the rest
 units-before : (p : ℕ) (rest : List ℕ) → units_of p rest ≡ units_of p [] ++ rest
@@ -103,9 +105,9 @@ module _ (us old : List ℕ) where
 
   module _ (now : List ℕ) (before at i : ℕ) (s : Pointing us old now before at i) where
     pub pointing-more : i < length us → (unit : ℕ) → unit ≡ get_or us i 0
-        → (more : List ℕ) (next : ℕ) → more ≡ sets now at (point_of before unit []) → next ≡ at + length (point_of before unit []) → Pointing us old more unit next (i + 1)
-    pointing-more h unit u more next m n = record {
-      putting = putting-more (points-pieces us) s.putting h more next (rw (s.last, u) at m) (rw (s.last, u) at n);
+        → {more : List ℕ} {next : ℕ} → Stored now at (point_of before unit []) more next → Pointing us old more unit next (i + 1)
+    pointing-more h unit u t = record {
+      putting = putting-more (points-pieces us) s.putting h (rw (s.last, u) at t);
       last = rw (u, add-one);
     }
 

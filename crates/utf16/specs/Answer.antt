@@ -1,23 +1,19 @@
 -- What the conversions between points, units and bytes answer, for every input.
-use Rattle.std.specs.Prelude.{ℕ, ◌*◌, ◌/◌, ◌%◌, Bool, List, eqb, ltb, length, take}
-use Rattle.basis.specs.Outcome.{Outcome, done, refused, refused_if, number_of}
+use Rattle.std.specs.Prelude.{ℕ, ◌*◌, ◌/◌, ◌%◌, Bool, List, eqb, ltb, length, take, Result}
+use Rattle.basis.specs.Outcome.{Outcome, done, refused_if, outcome_by}
 use Rattle.utf16.specs.Points.{first_not_point}
 use Rattle.utf16.specs.Units.{to_units, to_points, first_unpaired}
 use Rattle.utf16.specs.Bytes.{units_of_bytes, bytes_of_units, points_of, bytes_of}
-use Rattle.utf16.specs.declared.UnitsAnswer.{UnitsAnswer}
-use Rattle.utf16.specs.declared.UnitsAnswer.TheVariants as units
-use Rattle.utf16.specs.declared.PointsAnswer.{PointsAnswer}
-use Rattle.utf16.specs.declared.PointsAnswer.TheVariants as points
+use Rattle.basis.specs.declared.Refusal.{Refusal}
+use Rattle.utf16.specs.declared.UnitCount.{UnitCount}
+use Rattle.utf16.specs.declared.PointCount.{PointCount}
 
--- the count of an answer in units, or its error's number and position
-unfoldable pub units_outcome : UnitsAnswer → Outcome
-units_outcome (units.Units count) = done count.0
-units_outcome (units.Error code position) = refused (number_of code) position
+-- what an answer in units says, and one in points
+abbrev pub units_outcome : Result UnitCount Refusal → Outcome
+units_outcome answer = outcome_by (λ count. count.0) answer
 
--- the same of an answer in points
-unfoldable pub points_outcome : PointsAnswer → Outcome
-points_outcome (points.Points count) = done count.0
-points_outcome (points.Error code position) = refused (number_of code) position
+abbrev pub points_outcome : Result PointCount Refusal → Outcome
+points_outcome answer = outcome_by (λ count. count.0) answer
 
 -- the order of the refusals of a counted row: a count above it, a capacity below the needed, then
 -- the first element that has no place in it

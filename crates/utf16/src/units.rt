@@ -1,10 +1,10 @@
 // UTF-16 units: the two conversions of a row that has been judged.
 ghost use Rattle.std.specs.Prelude.{◌≡◌, [], ◌++◌, ◌+◌, ◌*◌, ◌≤◌, true, length, drop};
-ghost use Rattle.std.proofs.lemmas.List.Edits.{sets};
+ghost use Rattle.basis.specs.Internal.{Stored};
 ghost use Rattle.utf16.specs.Points.{is_point, is_text};
 ghost use Rattle.utf16.specs.Units.{high_of, low_of, units_of, to_units, point_of, to_points};
 
-use surrogates::units;
+use surrogates::units::{self, Units};
 
 // The high surrogate of a point of 10000 hex or more.
 pub(crate) fn high_of(point: u32) -> u16
@@ -23,11 +23,12 @@ pub(crate) fn low_of(point: u32) -> u16
 }
 
 // Stores the units of a point at an index, and answers the index after them.
+// Kept by hand: `char::encode_utf16` takes a `char`, so the `u32` would first be made one, with an arm that never runs; and bytes need the halves.
+// Kept: `units, at` are two parameters here and below: `Stored` speaks of a buffer and an index, so each contract would take a cursor struct apart.
 fn put_point_units(point: u32, units: &mut [u16], at: usize) -> usize
     requires at_in_bounds { at + 2 ≤ length units.old }
     requires point_value { is_point point ≡ true }
-    ensures value { result ≡ at + length (units_of point []) }
-    ensures units_after { units.new ≡ sets units.old at (units_of point []) }
+    ensures { Stored units.old at (units_of point []) units.new result }
 {
     if point < 0x10000 {
         units[at] = point as u16;
@@ -46,10 +47,8 @@ pub(crate) fn put_units(points: &[u32], units: &mut [u16]) -> usize
     ensures units_after { units.new ≡ to_units points.now ++ drop (length (to_units points.now)) units.old }
 {
     let mut at = 0;
-    let mut i = 0;
-    while i < points.len() {
-        at = put_point_units(points[i], units, at);
-        i += 1;
+    for &point in points {
+        at = put_point_units(point, units, at);
     }
     at
 }
@@ -57,8 +56,7 @@ pub(crate) fn put_units(points: &[u32], units: &mut [u16]) -> usize
 // Stores the point that a unit ends, if it ends one, at an index, and answers the index after it.
 pub(crate) fn put_unit_point(before: u16, unit: u16, points: &mut [u32], at: usize) -> usize
     requires { at + 1 ≤ length points.old }
-    ensures value { result ≡ at + length (point_of before unit []) }
-    ensures points_after { points.new ≡ sets points.old at (point_of before unit []) }
+    ensures { Stored points.old at (point_of before unit []) points.new result }
 {
     if units::is_high(unit) {
         return at;
@@ -72,19 +70,17 @@ pub(crate) fn put_unit_point(before: u16, unit: u16, points: &mut [u32], at: usi
 }
 
 // Writes the points of a row of units, and answers their count.
-pub(crate) fn put_points(units: &[u16], points: &mut [u32]) -> usize
-    requires { length units.now ≤ length points.old }
-    ensures value { result ≡ length (to_points units.now) }
-    ensures points_after { points.new ≡ to_points units.now ++ drop (length (to_points units.now)) points.old }
+pub(crate) fn put_points<R: Units>(row: &R, points: &mut [u32]) -> usize
+    requires { length (R.units row.now) ≤ length points.old }
+    ensures value { result ≡ length (to_points (R.units row.now)) }
+    ensures points_after { points.new ≡ to_points (R.units row.now) ++ drop (length (to_points (R.units row.now))) points.old }
 {
     let mut before = 0;
     let mut at = 0;
-    let mut i = 0;
-    while i < units.len() {
-        let unit = units[i];
+    for i in 0..row.count() {
+        let unit = row.unit_at(i);
         at = put_unit_point(before, unit, points, at);
         before = unit;
-        i += 1;
     }
     at
 }

@@ -1,8 +1,8 @@
 -- `encode_checked` meets its contract: each test answers in its turn, and what passes them all is stored and marked.
 use mathlib.Core.Path.{sym, ap, ◌∙◌}
 use native.Mathlib.Omega.{arith}
-use Rattle.basis.specs.Outcome.{done, bytes_outcome}
-use Rattle.basis.proofs.Outcome.{stop-given, pass-given, pass_below, refusal-leaves, done-leaves}
+use Rattle.basis.specs.Outcome.{done, outcome_by}
+use Rattle.basis.proofs.Outcome.{stop-given, pass-given, pass_below, refusal_is, refusal-leaves, done-leaves}
 use Rattle.basis.proofs.Parts.{front_long}
 use Rattle.altdude.specs.Encoding.{label_of}
 use Rattle.altdude.specs.Answer.{label_outcome}
@@ -12,12 +12,9 @@ use Rattle.basis.proofs.Clauses.{two_clauses}
 use Rattle.altdude.proofs.encode_checked.Goals as goal
 
 pub returns-then-edge : goal.returns-then-edge
-unfolding bytes_outcome
+unfolding outcome_by
 returns-then-edge c =
-    two_clauses (λ a b. record { result_value = a; label_after = b }) (refusal-leaves (label_outcome _) _ _ _ 5 0 (ap bytes_outcome c.bytes_error.ensures) (stop-given 5 0 _ _ _ c.text_has_edge_hyphen-edge.ensures c.if-edge.true))
-
-pub put_label-count-requires : goal.put_label-count-requires
-put_label-count-requires c = omega (arith, c.requires, label-short _ _ c.label_length-length.ensures (omega arith))
+    two_clauses (λ a b. record { result_value = a; label_after = b }) (refusal-leaves (label_outcome _) _ _ _ 5 0 (refusal_is c.at.ensures) (stop-given 5 0 _ _ _ c.text_has_edge_hyphen-edge.ensures c.if-edge.true))
 
 pub slice_bounds-raise_marked-end-2 : goal.slice_bounds-raise_marked-end-2
 slice_bounds-raise_marked-end-2 c =
@@ -25,7 +22,7 @@ slice_bounds-raise_marked-end-2 c =
     front_long _ (label_of t) _ _ c.put_label-count.ensures.value c.put_label-count.ensures.label_after
 
 pub returns : goal.returns
-unfolding bytes_outcome
+unfolding outcome_by
 returns c =
     two_clauses (λ a b. record { result_value = a; label_after = b }) (done-leaves (label_outcome _) _ _ _ c.put_label-count.result
     (pass-given 5 0 _ _ _ c.text_has_edge_hyphen-edge.ensures c.if-edge.false ∙ pass_below 3 0 _ 63 _ (label-short _ _ c.label_length-length.ensures (omega arith))

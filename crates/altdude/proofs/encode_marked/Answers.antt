@@ -4,8 +4,8 @@ use mathlib.Core.Path.{refl, ap}
 use mathlib.Core.Bool.{true}
 use mathlib.Core.List.{List}
 use lib.ListN.{length}
-use Rattle.basis.specs.Outcome.{Outcome, done, bytes_outcome}
-use Rattle.basis.proofs.Outcome.{refusal-leaves, handed-leaves}
+use Rattle.basis.specs.Outcome.{Outcome, done, outcome_by, bytes_outcome}
+use Rattle.basis.proofs.Outcome.{handed_on, refusal-leaves, handed-leaves}
 use Rattle.labels.specs.Tests.{text_tests}
 use Rattle.labels.specs.Marks.{marks_tests}
 use Rattle.labels.proofs.FirstTests.{check-stops, check-passes, text-passed}
@@ -17,17 +17,17 @@ use Rattle.altdude.proofs.encode_marked.Goals as goal
 abbrev tests : (capacity : ℕ) (text marks : List ℕ) → Outcome → Outcome
 tests capacity t marks next = text_tests capacity t (marks_tests true t marks next)
 
-pub returns-in-Error : goal.returns-in-Error
-unfolding bytes_outcome encode_marked_outcome
-returns-in-Error c =
+pub returns-in_err-check_marked : goal.returns-in_err-check_marked
+unfolding outcome_by encode_marked_outcome
+returns-in_err-check_marked c =
     let a = c.args in
-    two_clauses (λ a b. record { result_value = a; label_after = b }) (refusal-leaves (encode_marked_outcome _ _ _) _ _ _ _ _ (ap bytes_outcome c.bytes_error.ensures)
-    (check-stops (tests (length a.label.now) a.text.now a.marks.now) _ c.check_marked-check.ensures _ _ _ c.in-Error.is))
+    two_clauses (λ a b. record { result_value = a; label_after = b }) (refusal-leaves (encode_marked_outcome _ _ _) _ _ _ _ _ (ap bytes_outcome (handed_on c.from_residual.ensures))
+    (check-stops (tests (length a.label.now) a.text.now a.marks.now) _ c.check_marked.ensures _ c.in_err-check_marked.was))
 
 pub encode_checked-requires : goal.encode_checked-requires
-encode_checked-requires c = (text-passed _ _ 0 _ (check-passes _ _ c.check_marked-check.ensures (done 0) c.in-Passed.is)).room
+encode_checked-requires c = (text-passed _ _ 0 _ (check-passes _ _ c.check_marked.ensures (done 0) c.in_ok-check_marked.was)).room
 
 pub returns : goal.returns
 unfolding encode_marked_outcome
 returns c =
-    two_clauses (λ a b. record { result_value = a; label_after = b }) (handed-leaves (encode_marked_outcome _ _ _) (label_outcome _) _ _ _ _ _ (check-passes _ _ c.check_marked-check.ensures _ c.in-Passed.is) refl (c.encode_checked.ensures.result_value, c.encode_checked.ensures.label_after))
+    two_clauses (λ a b. record { result_value = a; label_after = b }) (handed-leaves (encode_marked_outcome _ _ _) (label_outcome _) _ _ _ _ _ (check-passes _ _ c.check_marked.ensures _ c.in_ok-check_marked.was) refl (c.encode_checked.ensures.result_value, c.encode_checked.ensures.label_after))

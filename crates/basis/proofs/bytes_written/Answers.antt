@@ -1,12 +1,11 @@
 -- `bytes_written` meets its contract: an answer is bytes or an error.
-use Rattle.std.proofs.Common.{◌≡◌, rules}
-use Rattle.basis.specs.Outcome.{count_of, bytes_outcome}
+use Rattle.std.proofs.Common.{rules, ◌≡◌, ℕ, Result, Ok, Err, tests}
+use Rattle.std.specs.Result.{MatchResult}
+use Rattle.basis.specs.declared.ByteCount.{ByteCount}
+use Rattle.basis.specs.declared.Refusal.{Refusal}
+use Rattle.basis.specs.Outcome.{count_of, outcome_by, bytes_outcome}
 use Rattle.basis.proofs.bytes_written.Goals as goal
 
-pub returns-in-Bytes : goal.returns-in-Bytes
-unfolding bytes_outcome count_of
-returns-in-Bytes c = rw c.in-Bytes.is
-
-pub returns-in-Error : goal.returns-in-Error
-unfolding bytes_outcome count_of
-returns-in-Error c = rw c.in-Error.is
+pub returns : goal.returns
+unfolding outcome_by count_of
+returns c = search (rules, tests)

@@ -1,5 +1,5 @@
 -- `style_of` meets its contract: the first 63 units decide.
-use Rattle.std.proofs.Common.{sym, ◌≡◌, ℕ, length, take, arith}
+use Rattle.std.proofs.Common.{sym, ◌≡◌, length, take, arith}
 use lib.Seq.{length-take-le}
 use Rattle.brace_choice.proofs.Styles.{style-whole}
 use Rattle.brace_choice.proofs.style_of.Goals as goal

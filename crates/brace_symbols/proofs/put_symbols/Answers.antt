@@ -1,22 +1,22 @@
 -- `put_symbols` meets its contract: each test answers in its turn.
-use mathlib.Core.Path.{refl, ap}
+use mathlib.Core.Path.{refl}
 use native.Mathlib.Omega.{arith}
-use Rattle.basis.specs.Outcome.{bytes_outcome}
-use Rattle.basis.proofs.Outcome.{refusal-leaves, handed-leaves}
+use Rattle.basis.specs.Outcome.{outcome_by}
+use Rattle.basis.proofs.Outcome.{refusal-leaves, refusal_is, handed-leaves}
 use Rattle.brace_symbols.specs.Answer.{encode_outcome}
 use Rattle.brace_symbols.proofs.Labels.{stop-empty, stop-unpaired, by_length}
 use Rattle.basis.proofs.Clauses.{two_clauses}
 use Rattle.brace_symbols.proofs.put_symbols.Goals as goal
 
 pub returns-then-units-eq0 : goal.returns-then-units-eq0
-unfolding bytes_outcome
+unfolding outcome_by
 returns-then-units-eq0 c =
-    two_clauses (λ a b. record { result_value = a; symbols_after = b }) (refusal-leaves (encode_outcome _ _) _ _ _ 2 0 (ap bytes_outcome c.bytes_error-then-units-eq0.ensures) (stop-empty _ _ (omega arith) c.if-units-eq0.true))
+    two_clauses (λ a b. record { result_value = a; symbols_after = b }) (refusal-leaves (encode_outcome _ _) _ _ _ 2 0 (refusal_is c.at-then-units-eq0.ensures) (stop-empty _ _ (omega arith) c.if-units-eq0.true))
 
 pub returns-then-unpaired-units : goal.returns-then-unpaired-units
-unfolding bytes_outcome
+unfolding outcome_by
 returns-then-unpaired-units c =
-    two_clauses (λ a b. record { result_value = a; symbols_after = b }) (refusal-leaves (encode_outcome _ _) _ _ _ 10 _ (ap bytes_outcome c.bytes_error-then-unpaired-units.ensures)
+    two_clauses (λ a b. record { result_value = a; symbols_after = b }) (refusal-leaves (encode_outcome _ _) _ _ _ 10 _ (refusal_is c.at-then-unpaired-units.ensures)
     (stop-unpaired _ _ (omega arith) c.if-units-eq0.false _ c.first_unpaired-unpaired.ensures c.if-unpaired-units.true))
 
 pub returns : goal.returns

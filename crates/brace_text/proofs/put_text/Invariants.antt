@@ -1,11 +1,7 @@
 -- What is left is the text of the bytes from `i` on, from the mode and the queue on.
-use Prim.Native.Nat.{◌-◌}
-use lib.ListN.{length}
+use Rattle.brace_text.specs.Decoding.{text_from}
 use Rattle.brace_text.proofs.Reading.{Getting}
 use Rattle.brace_text.proofs.put_text.Given as goal
 
-abbrev pub invariant-loop-i : goal.invariant-loop-i
-invariant-loop-i l = Getting l.style l.k l.v l.from l.body l.initial.units l.units l.mode l.count l.value l.at l.i
-
-abbrev pub decreases-loop-i : goal.decreases-loop-i
-decreases-loop-i l = length l.body - l.i
+abbrev pub invariant-loop-byte : goal.invariant-loop-byte
+invariant-loop-byte l = Getting (text_from l.fn.start.style l.fn.start.mode l.fn.start.queue.count l.fn.start.queue.value l.rest) l.rest l.initial.units l.units l.progress.style l.progress.mode l.progress.queue.count l.progress.queue.value l.at l.byte-index

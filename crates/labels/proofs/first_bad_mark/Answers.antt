@@ -1,25 +1,44 @@
--- `first_bad_mark` meets its contract: every mark passed may be on its point.
-use mathlib.Core.Path.{sym, ap, ◌∙◌}
-use mathlib.Core.Bool.{not}
+-- `first_bad_mark` meets its contract.
+use Prim.Native.Nat.{ℕ, ◌<◌}
+use mathlib.Core.Path.{◌≡◌, sym, ap, ◌∙◌}
+use mathlib.Core.Bool.{Bool, true, false, not}
+use mathlib.Core.List.{List}
+use lib.ListN.{length, get_or}
+use borrow.Author.Tests.{tests}
 use native.Mathlib.Omega.{arith}
-use Rattle.basis.proofs.Scan.{passed_none, passed-more, found_first, found_none}
-use Rattle.labels.specs.Marks.{first_bad_mark}
+use Rattle.std.proofs.Common.{Option, None, Some, rules}
+use Rattle.std.specs.List.{zip, AllWithin, HoldsAt}
+use Rattle.std.specs.Option.{MatchOption, unwrap_or}
+use Rattle.std.proofs.lemmas.Slice.Zip.{get_or-zip, length-zip}
+use Rattle.std.proofs.lemmas.Iterator.{YieldsList-from_slice, YieldsList-from_zip, IsFirst-from_position}
+use Rattle.basis.specs.Tests.{first_below}
+use Rattle.basis.specs.Rows.{at}
+use Rattle.basis.proofs.Tests.{first-at, first-stop}
+use Rattle.labels.specs.Marks.{may_mark, first_bad_mark}
 use Rattle.labels.proofs.first_bad_mark.Goals as goal
 
-pub loop-i-init : goal.loop-i-init
-unfolding first_bad_mark
-loop-i-init c = passed_none _ _
+-- the first pair of two rows of one length of which a test holds
+module _ (test : ℕ × ℕ → Bool) (xs ys : List ℕ) (same : length ys ≡ length xs) where
+  long : length (zip xs ys) ≡ length xs
+  long = omega (arith, length-zip xs ys)
 
-pub returns-then-not-may_mark : goal.returns-then-not-may_mark
-unfolding first_bad_mark
-returns-then-not-may_mark c =
-    found_first c.loop-i.invariant (omega arith) (sym (ap not c.may_mark.ensures) ∙ c.if-not-may_mark.true-raw)
+  pair : (k : ℕ) → k < length xs → test (get_or (zip xs ys) k (0, 0)) ≡ test (at xs k, at ys k)
+  pair k h = ap test (get_or-zip xs ys k (0, 0) h (omega arith))
 
-pub loop-i-preserved : goal.loop-i-preserved
-unfolding first_bad_mark
-loop-i-preserved c =
-    passed-more c.loop-i.invariant (omega arith) (sym (ap not c.may_mark.ensures) ∙ c.if-not-may_mark.false-raw)
+  position_is_first : (r : Option ℕ) → MatchOption r (AllWithin (λ p. test p ≡ false) (zip xs ys) 0 (length (zip xs ys)))
+      (λ i. (i < length (zip xs ys)) × HoldsAt (λ p. test p ≡ true) (zip xs ys) i × AllWithin (λ p. test p ≡ false) (zip xs ys) 0 i)
+      → unwrap_or r (length xs) ≡ first_below (length xs) (λ k. test (at xs k, at ys k))
+  position_is_first None p =
+      sym (first-stop (length xs) _ (length xs) (omega arith) (omega arith) (λ k h. sym (pair k h) ∙ p k (0, 0) (omega arith) (omega (arith, long))))
+  position_is_first (Some i) p =
+      let inside : i < length xs = omega (arith, p.0, long) in
+      sym (first-at (length xs) _ i inside (sym (pair i inside) ∙ p.1 (0, 0)) (λ k h. sym (pair k (omega arith)) ∙ p.2 k (0, 0) (omega arith) h))
 
 pub returns : goal.returns
 unfolding first_bad_mark
-returns c = found_none c.loop-i.invariant (omega arith)
+returns c =
+    let a = c.args in
+    c.unwrap_or.ensures
+    ∙ position_is_first (λ p. not (may_mark a.keeps p.0 p.1)) a.text.now a.marks.now c.requires _
+    (IsFirst-from_position c.position.new.self _ _ (λ p. not (may_mark a.keeps p.0 p.1) ≡ true) (λ p. not (may_mark a.keeps p.0 p.1) ≡ false) c.position.ensures.ran
+    (YieldsList-from_zip (YieldsList-from_slice a.text.now cc) (YieldsList-from_slice a.marks.now cc)) (λ x q k. search (rules, tests)) (λ x q k. search (rules, tests)))

@@ -2,10 +2,10 @@
 use Rattle.nametable_short_format.specs.Format.{kind_named}
 use Rattle.nametable_short_format.proofs.long_kind.Goals as goal
 
-pub returns-in-Known : goal.returns-in-Known
+pub returns-in-Some : goal.returns-in-Some
 unfolding kind_named
-returns-in-Known c = rw (c.kind.ensures, ← c.of_own_number-named.ensures, c.in-Known.is)
+returns-in-Some c = rw (c.kind.ensures, ← c.of_own_number.ensures, c.in-Some.is)
 
-pub returns-in-Unknown : goal.returns-in-Unknown
+pub returns-in-None : goal.returns-in-None
 unfolding kind_named
-returns-in-Unknown c = rw (← c.of_own_number-named.ensures, c.in-Unknown.is)
+returns-in-None c = rw (← c.of_own_number.ensures, c.in-None.is)

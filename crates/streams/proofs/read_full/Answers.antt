@@ -7,7 +7,7 @@ pub loop-done-preserved : goal.loop-done-preserved
 loop-done-preserved g c = record {
   inside = search rules;
   taken =
-      taken-more _ _ _ c.loop-done.buffer c.read-answer.new.buffer c.loop-done.done c.in-Got.n c.loop-done.invariant.inside (search rules)
-      c.loop-done.invariant.taken c.in-Got.ensures.taken;
+      taken-more _ _ _ c.loop-done.buffer c.read.new.buffer c.loop-done.done c.in-Ok-Some.n c.loop-done.invariant.inside (search rules)
+      c.loop-done.invariant.taken (rw c.in-Ok-Some.field-0-is at c.in-Ok-Some.ensures.taken);
   silent = search rules;
 }

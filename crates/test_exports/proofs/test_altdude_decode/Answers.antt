@@ -5,5 +5,5 @@ pub returns : goal.returns
 returns c =
     record {
       text_after = c.decode.ensures.text_after;
-      answer_after = rw (← c.decode.ensures.result_value) c.store_points.ensures;
+      answer_after = rw (← c.decode.ensures.result_value) c.store_count.ensures;
     }

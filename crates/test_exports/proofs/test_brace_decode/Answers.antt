@@ -5,5 +5,5 @@ pub returns : goal.returns
 returns c =
     record {
       units_after = c.decode.ensures.units_after;
-      answer_after = rw (← c.decode.ensures.result_value) c.store_units.ensures;
+      answer_after = rw (← c.decode.ensures.result_value) c.store_count.ensures;
     }

@@ -5,5 +5,5 @@ pub returns : goal.returns
 returns c =
     record {
       label_after = c.encode.ensures.label_after;
-      answer_after = rw (← c.encode.ensures.result_value) c.store_bytes.ensures;
+      answer_after = rw (← c.encode.ensures.result_value) c.store_count.ensures;
     }

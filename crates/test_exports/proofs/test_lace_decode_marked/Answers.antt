@@ -6,5 +6,5 @@ returns c =
     record {
       text_after = c.decode_marked.ensures.text_after;
       marks_after = c.decode_marked.ensures.marks_after;
-      answer_after = rw (← c.decode_marked.ensures.result_value) c.store_points.ensures;
+      answer_after = rw (← c.decode_marked.ensures.result_value) c.store_count.ensures;
     }

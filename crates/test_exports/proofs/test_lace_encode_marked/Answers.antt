@@ -5,5 +5,5 @@ pub returns : goal.returns
 returns c =
     record {
       label_after = c.encode_marked.ensures.label_after;
-      answer_after = rw (← c.encode_marked.ensures.result_value) c.store_bytes.ensures;
+      answer_after = rw (← c.encode_marked.ensures.result_value) c.store_count.ensures;
     }

@@ -2,4 +2,4 @@
 use Rattle.test_exports.proofs.test_receive.Goals as goal
 
 pub returns : goal.returns
-returns c = rw (← c.in_chunks.ensures) c.store_table.ensures
+returns c = rw (← c.in_chunks.ensures) c.store_count.ensures

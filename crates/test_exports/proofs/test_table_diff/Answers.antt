@@ -5,5 +5,5 @@ pub returns : goal.returns
 returns c =
     record {
       sheet_after = c.write_report.ensures.report_after;
-      answer_after = rw (← c.write_report.ensures.result_value) c.store_bytes.ensures;
+      answer_after = rw (← c.write_report.ensures.result_value) c.store_count.ensures;
     }

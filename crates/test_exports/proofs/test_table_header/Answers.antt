@@ -2,4 +2,4 @@
 use Rattle.test_exports.proofs.test_table_header.Goals as goal
 
 pub returns : goal.returns
-returns c = rw (← c.header.ensures) c.store_table.ensures
+returns c = rw (← c.header.ensures) c.store_count.ensures

@@ -2,4 +2,4 @@
 use Rattle.test_exports.proofs.test_table_read.Goals as goal
 
 pub returns : goal.returns
-returns c = rw (← c.read.ensures) c.store_table.ensures
+returns c = rw (← c.read.ensures) c.store_count.ensures

@@ -5,5 +5,5 @@ pub returns : goal.returns
 returns c =
     record {
       table_after = c.to_long.ensures.table_after;
-      answer_after = rw (← c.to_long.ensures.result_value) c.store_bytes.ensures;
+      answer_after = rw (← c.to_long.ensures.result_value) c.store_count.ensures;
     }

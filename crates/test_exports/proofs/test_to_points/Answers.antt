@@ -5,5 +5,5 @@ pub returns : goal.returns
 returns c =
     record {
       points_after = c.to_points.ensures.points_after;
-      answer_after = rw (← c.to_points.ensures.result_value) c.store_points.ensures;
+      answer_after = rw (← c.to_points.ensures.result_value) c.store_count.ensures;
     }

@@ -5,5 +5,5 @@ pub returns : goal.returns
 returns c =
     record {
       short_after = c.to_short.ensures.short_after;
-      answer_after = rw (← c.to_short.ensures.result_value) c.store_bytes.ensures;
+      answer_after = rw (← c.to_short.ensures.result_value) c.store_count.ensures;
     }

@@ -5,5 +5,5 @@ pub returns : goal.returns
 returns c =
     record {
       units_after = c.to_units.ensures.units_after;
-      answer_after = rw (← c.to_units.ensures.result_value) c.store_units.ensures;
+      answer_after = rw (← c.to_units.ensures.result_value) c.store_count.ensures;
     }

@@ -6,41 +6,35 @@ use Rattle.altdude.proofs.DecodeLaws.{symbol-small, reading-start, reading-stop,
 use Rattle.basis.proofs.Clauses.{two_clauses}
 use Rattle.altdude.proofs.decoding.put_text.Goals as goal
 
-pub loop-i-init : goal.loop-i-init
-loop-i-init c = (reading-start _ _ (sym c.requires.label_value), putting-start _ _)
+pub loop-byte-init : goal.loop-byte-init
+loop-byte-init c = (reading-start _ _ (sym c.requires.label_value), putting-start _ _)
 
-pub overflow_cast-symbol : goal.overflow_cast-symbol
-overflow_cast-symbol c = omega (arith, symbol-small _ _ c.symbol_of-symbol.ensures)
-
-pub advance-next-requires : goal.advance-next-requires
-advance-next-requires c = omega (arith, symbol-small _ _ c.symbol_of-symbol.ensures)
+pub advance-requires : goal.advance-requires
+advance-requires c = omega (arith, symbol-small _ _ c.symbol_of-symbol.ensures)
 
 pub shape_of-text-in_default : goal.shape_of-text-in_default
-shape_of-text-in_default c = c.loop-i.invariant.1.storing.long
+shape_of-text-in_default c = c.loop-byte.invariant.1.storing.long
 
 pub returns-in_default : goal.returns-in_default
 returns-in_default c =
-    let stop = reading-stop _ _ _ _ _ c.loop-i.invariant.0 c.loop-i-test.true _ c.symbol_of-symbol.ensures _ c.advance-next.ensures
+    let stop = reading-stop _ _ _ _ c.loop-byte.invariant.0 c.loop-byte-test.true _ c.symbol_of-symbol.ensures _ c.advance.ensures
     c.in_default.is in
     two_clauses (λ a b. record { value = a; text_after = b }) (absurd (true-not-false refl (sym stop)))
 
 pub put_symbol-at-requires : goal.put_symbol-at-requires
 put_symbol-at-requires c =
-    let l = c.loop-i in
+    let l = c.loop-byte in
     omega (arith, l.invariant.1.behind, l.invariant.1.storing.long)
 
-pub loop-i-smaller : goal.loop-i-smaller
-loop-i-smaller c = omega arith
-
-pub loop-i-preserved : goal.loop-i-preserved
-loop-i-preserved c =
-    let l = c.loop-i in
-    putting-turn _ _ _ _ _ l.invariant.0 c.loop-i-test.true _ c.symbol_of-symbol.ensures _ c.advance-next.ensures _ _
-    c.in-Next.is _ _ _ _ _ l.invariant.1 c.put_symbol-at.ensures.value c.put_symbol-at.ensures.text_after
+pub loop-byte-preserved : goal.loop-byte-preserved
+loop-byte-preserved c =
+    let l = c.loop-byte in
+    putting-turn _ _ _ _ l.invariant.0 c.loop-byte-test.true _ c.symbol_of-symbol.ensures _ c.advance.ensures _
+    c.in-Some.is _ _ _ l.invariant.1 c.put_symbol-at.ensures
 
 pub shape_of-text : goal.shape_of-text
-shape_of-text c = c.loop-i.invariant.1.storing.long
+shape_of-text c = c.loop-byte.invariant.1.storing.long
 
 pub returns : goal.returns
 returns c =
-    two_clauses (λ a b. record { value = a; text_after = b }) (putting-end _ _ _ _ _ _ _ c.loop-i.invariant.1 c.loop-i-test.false c.requires.label_in_bounds)
+    two_clauses (λ a b. record { value = a; text_after = b }) (putting-end _ _ _ _ _ _ c.loop-byte.invariant.1 c.loop-byte-test.false c.requires.label_in_bounds)

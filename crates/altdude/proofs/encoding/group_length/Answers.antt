@@ -10,12 +10,6 @@ use Rattle.altdude.proofs.encoding.group_length.Goals as goal
 pub loop-y-init : goal.loop-y-init
 loop-y-init c = (omega (arith, group-length c.args.x), omega arith)
 
-pub overflow_add-n : goal.overflow_add-n
-overflow_add-n c = omega arith
-
-pub loop-y-smaller : goal.loop-y-smaller
-loop-y-smaller c = omega arith
-
 pub loop-y-preserved : goal.loop-y-preserved
 loop-y-preserved c = (omega (arith, digits-length c.loop-y.y c.loop-y-test.true), omega arith)
 

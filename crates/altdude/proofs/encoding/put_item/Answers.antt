@@ -1,7 +1,6 @@
 -- `encoding::put_item` meets its contract.
 use native.Mathlib.Omega.{arith}
 use Rattle.altdude.proofs.EncodeLaws.{item-group, hyphen-length, put-hyphen}
-use Rattle.basis.proofs.Clauses.{two_clauses}
 use Rattle.altdude.proofs.encoding.put_item.Goals as goal
 
 pub bounds-label-at : goal.bounds-label-at
@@ -9,14 +8,11 @@ bounds-label-at c = omega (arith, hyphen-length c.args.remembered c.args.point c
 
 pub returns-then-point-eq45 : goal.returns-then-point-eq45
 returns-then-point-eq45 c =
-    record {
-      value = rw (hyphen-length _ _ c.if-point-eq45.true);
-      label_after = put-hyphen _ _ c.if-point-eq45.true _ _;
-    }
+    put-hyphen _ _ c.if-point-eq45.true _ _
 
 pub put_group-requires : goal.put_group-requires
 put_group-requires c = rw (item-group _ _ c.if-point-eq45.false) at c.requires
 
 pub returns : goal.returns
 returns c =
-    two_clauses (λ a b. record { value = a; label_after = b }) (rw (item-group c.args.remembered c.args.point c.if-point-eq45.false) (c.put_group.ensures.value, c.put_group.ensures.label_after))
+    rw (item-group c.args.remembered c.args.point c.if-point-eq45.false) c.put_group.ensures

@@ -1,5 +1,4 @@
 -- The loop's invariant: the first i octets are before what the buffer held. Each turn stores one more.
-use Prim.Native.Nat.{◌-◌, ◌≤◌}
 use mathlib.Core.Path.{◌≡◌}
 use mathlib.Core.List.{◌++◌}
 use lib.ListN.{length, drop}
@@ -10,9 +9,5 @@ use Rattle.base32.proofs.octets.put_octets.Given as goal
 
 abbrev pub invariant-loop-i : goal.invariant-loop-i
 invariant-loop-i l =
-    (l.i ≤ l.n)
-    × (length l.octets ≡ length l.initial.octets)
-    × (l.octets ≡ tabulate l.i (regroup 5 8 (at (values_of lace l.characters))) ++ drop l.i l.initial.octets)
-
-abbrev pub decreases-loop-i : goal.decreases-loop-i
-decreases-loop-i l = l.n - l.i
+    (length l.slot-items ≡ length l.initial.slot-items)
+    × (l.slot-items ≡ tabulate l.i (regroup 5 8 (at (values_of lace l.characters))) ++ drop l.i l.initial.slot-items)

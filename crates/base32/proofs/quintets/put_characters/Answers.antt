@@ -1,25 +1,28 @@
 -- The loop's invariant: the first i characters are before what the buffer held. Each turn stores one more.
+use Prim.Native.Nat.{ℕ}
 use mathlib.Core.Path.{refl, ap, ◌∙◌}
+use mathlib.Core.List.{List, ◌++◌}
 use native.Mathlib.Omega.{arith}
-use lib.ListN.{length-set}
+use lib.ListN.{drop, length-set}
+use lib.Seq.{length-take-le}
 use Rattle.basis.specs.Rows.{tabulate}
-use Rattle.basis.proofs.Lists.{fill_more, fill_done}
+use Rattle.basis.proofs.Lists.{fill_more}
 use Rattle.alphabet.specs.Alphabet.{lace, character_of}
-use Rattle.base32.proofs.Values.{characters-tabulate}
+use Rattle.base32.proofs.Values.{fill-part, characters-tabulate}
 use Rattle.base32.proofs.quintets.put_characters.Goals as goal
 
 pub loop-i-init : goal.loop-i-init
 unfolding tabulate
-loop-i-init c = (omega arith, refl, refl)
-
-pub bounds-characters-i : goal.bounds-characters-i
-bounds-characters-i c = omega arith
+loop-i-init c = (refl, refl)
 
 pub loop-i-preserved : goal.loop-i-preserved
 loop-i-preserved c =
     let l = c.loop-i in
-    (omega arith, simp length-set l.invariant.1, fill_more _ _ _ l.i _ (omega arith) (c.lace_character.ensures ∙ ap (character_of lace) c.quintet.ensures) l.invariant.2)
+    (simp length-set l.invariant.0, fill_more _ _ _ l.i _ (omega arith) (c.lace_character.ensures ∙ ap (character_of lace) c.quintet.ensures) l.invariant.1)
 
 pub returns : goal.returns
 returns c =
-    fill_done _ _ _ _ c.loop-i.i c.args.n (omega arith) (characters-tabulate lace c.args.octets.now c.args.n c.requires.n_value) c.loop-i.invariant.2
+    let a = c.args in
+    let long = length-take-le a.n a.characters.now c.requires.n_in_bounds in
+    ap (λ (l : List ℕ). l ++ drop a.n a.characters.now)
+    (fill-part _ _ _ _ c.loop-i.i a.n long (omega (arith, long)) (characters-tabulate lace a.octets.now a.n c.requires.n_value) c.loop-i.invariant.1)

@@ -1,5 +1,4 @@
 -- The loop's invariant: the first i characters are before what the buffer held. Each turn stores one more.
-use Prim.Native.Nat.{◌-◌, ◌≤◌}
 use mathlib.Core.Path.{◌≡◌}
 use mathlib.Core.List.{◌++◌}
 use lib.ListN.{length, drop}
@@ -10,9 +9,5 @@ use Rattle.base32.proofs.quintets.put_characters.Given as goal
 
 abbrev pub invariant-loop-i : goal.invariant-loop-i
 invariant-loop-i l =
-    (l.i ≤ l.n)
-    × (length l.characters ≡ length l.initial.characters)
-    × (l.characters ≡ tabulate l.i (λ k. character_of lace (regroup 8 5 (at l.octets) k)) ++ drop l.i l.initial.characters)
-
-abbrev pub decreases-loop-i : goal.decreases-loop-i
-decreases-loop-i l = l.n - l.i
+    (length l.slot-items ≡ length l.initial.slot-items)
+    × (l.slot-items ≡ tabulate l.i (λ k. character_of lace (regroup 8 5 (at l.octets) k)) ++ drop l.i l.initial.slot-items)

@@ -8,19 +8,19 @@ use Rattle.bench_list.proofs.chunks.answer_chunk.Goals as goal
 pub loop-from-init : goal.loop-from-init
 loop-from-init c = answering-start _ _ _ _ c.requires.held_in_bounds
 
-pub returns-in-More : goal.returns-in-More
-returns-in-More c =
-    answering-rest c.loop-from.invariant _ c.next_line-step.ensures.line_after _ _ c.in-More.is c.next_line-step.ensures.value
+pub returns-in_default : goal.returns-in_default
+returns-in_default c =
+    answering-rest c.loop-from.invariant _ c.next_line-step.ensures.line_after _ c.next_line-step.ensures.value c.in_default.is
 
 pub slice_bounds-answer_line-end : goal.slice_bounds-answer_line-end
 slice_bounds-answer_line-end c =
     let l = c.loop-from in
-    line-fits _ l.line l.kept _ _ c.next_line-step.ensures.line_after _ c.next_line-step.ensures.value _ _ c.in-Ended.is
+    line-fits _ l.line l.kept _ _ c.next_line-step.ensures.line_after _ c.next_line-step.ensures.value
 
-pub slice_bounds-answer_line-end-in-Ended : goal.slice_bounds-answer_line-end-in-Ended
-slice_bounds-answer_line-end-in-Ended c =
+pub slice_bounds-answer_line-end-in-loop-from : goal.slice_bounds-answer_line-end-in-loop-from
+slice_bounds-answer_line-end-in-loop-from c =
     let l = c.loop-from in
-    line-long _ l.line l.kept _ _ c.next_line-step.ensures.line_after _ c.next_line-step.ensures.value _ _ c.in-Ended.is
+    line-long _ l.line l.kept _ _ c.next_line-step.ensures.line_after _ c.next_line-step.ensures.value
 
 pub slice_bounds-answer_line-count : goal.slice_bounds-answer_line-count
 slice_bounds-answer_line-count c = at-fits c.loop-from.invariant.filling c.requires.chunk_in_bounds
@@ -33,17 +33,18 @@ answer_line-at-requires c = room-left c.loop-from.invariant.filling c.requires.c
 
 pub overflow_add-at : goal.overflow_add-at
 overflow_add-at c =
-    let a = answering-more c.loop-from.invariant _ c.next_line-step.ensures.line_after _ _ _ c.in-Ended.is c.next_line-step.ensures.value _ c.answer_line-at.ensures.out_after _ c.answer_line-at.ensures.value in record { fits = omega (arith, a.filling.room, a.filling.within, c.requires.chunk_in_bounds) }
+    let a = answering-more c.loop-from.invariant _ c.next_line-step.ensures.line_after _ c.next_line-step.ensures.value _ c.in-Some.is _ c.answer_line-at.ensures.out_after _ c.answer_line-at.ensures.value in
+    record { fits = omega (arith, a.filling.room, a.filling.within, c.requires.chunk_in_bounds) }
 
 pub loop-from-smaller : goal.loop-from-smaller
 loop-from-smaller c =
     let l = c.loop-from in
-    let n = later _ l.line l.kept _ _ c.next_line-step.ensures.line_after _ c.next_line-step.ensures.value _ _ c.in-Ended.is in
+    let n = later _ l.line l.kept _ _ c.next_line-step.ensures.line_after _ c.next_line-step.ensures.value _ c.in-Some.is in
     omega arith
 
 pub loop-from-preserved : goal.loop-from-preserved
 loop-from-preserved c =
-    answering-more c.loop-from.invariant _ c.next_line-step.ensures.line_after _ _ _ c.in-Ended.is c.next_line-step.ensures.value _ c.answer_line-at.ensures.out_after _ c.answer_line-at.ensures.value
+    answering-more c.loop-from.invariant _ c.next_line-step.ensures.line_after _ c.next_line-step.ensures.value _ c.in-Some.is _ c.answer_line-at.ensures.out_after _ c.answer_line-at.ensures.value
 
 pub returns : goal.returns
 returns c = answering-end c.loop-from.invariant c.loop-from-test.false

@@ -1,25 +1,18 @@
--- Rows of other lengths differ; the bytes before `i` are read as the symbols before it.
-use borrow.Author.Tests.{not-true, not-false}
-use native.Mathlib.Omega.{arith}
-use Rattle.brace_decoding.proofs.Comparison.{lengths_differ, compared-start, compared-turn, compared-stop, compared-end}
+-- Rows of other lengths differ; of one length each byte is to be read as its symbol.
+use mathlib.Core.Bool.{true, false}
+use mathlib.Core.Path.{◌≡◌}
+use borrow.Author.Tests.{tests}
+use Rattle.std.proofs.Common.{rules}
+use Rattle.std.proofs.lemmas.Iterator.{YieldsList-from_slice, YieldsList-from_zip, cases_from_all}
+use Rattle.alphabet.specs.Alphabet.{brace}
+use Rattle.copying.specs.Symbols.{is_for}
+use Rattle.brace_decoding.proofs.Comparison.{lengths_differ, pairs-for}
 use Rattle.brace_decoding.proofs.decoding.are_for.Goals as goal
 
 pub returns-then-symbols-bytes : goal.returns-then-symbols-bytes
 returns-then-symbols-bytes c = lengths_differ _ _ c.if-symbols-bytes.true
 
-pub loop-i-init : goal.loop-i-init
-loop-i-init c = compared-start _ _ c.if-symbols-bytes.false
-
-pub bounds-bytes-i : goal.bounds-bytes-i
-bounds-bytes-i c = omega (arith, c.loop-i.invariant.long)
-
-pub returns-then-not-is_for : goal.returns-then-not-is_for
-returns-then-not-is_for c =
-    compared-stop _ _ _ c.loop-i.invariant c.loop-i-test.true _ c.is_for.ensures (not-true _ c.if-not-is_for.true-raw)
-
-pub loop-i-preserved : goal.loop-i-preserved
-loop-i-preserved c =
-    compared-turn _ _ _ c.loop-i.invariant c.loop-i-test.true _ c.is_for.ensures (not-false _ c.if-not-is_for.false-raw)
-
 pub returns : goal.returns
-returns c = compared-end _ _ _ c.loop-i.invariant c.loop-i-test.false
+returns c =
+    pairs-for _ _ c.if-symbols-bytes.false _ (cases_from_all c.all.new.self _ _ (λ p. is_for brace p.0 p.1 ≡ true) (λ p. is_for brace p.0 p.1 ≡ false) c.all.ensures.ran
+    (YieldsList-from_zip (YieldsList-from_slice c.args.symbols.now cc) (YieldsList-from_slice c.args.bytes.now cc)) (λ x q k. search (rules, tests)) (λ x q k. search (rules, tests)))

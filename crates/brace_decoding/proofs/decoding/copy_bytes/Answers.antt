@@ -7,9 +7,6 @@ use Rattle.brace_decoding.proofs.decoding.copy_bytes.Goals as goal
 pub loop-i-init : goal.loop-i-init
 loop-i-init c = storing-all _ _
 
-pub overflow_cast-units : goal.overflow_cast-units
-overflow_cast-units c = omega (arith, c.type_inv.label c.loop-i.i)
-
 pub bounds-units-i : goal.bounds-units-i
 bounds-units-i c = omega (arith, c.loop-i.invariant.long)
 

@@ -3,29 +3,20 @@ use native.Mathlib.Omega.{arith}
 use Rattle.brace_symbols.proofs.Units.{tallying-start, tallying-over, tallying-turn, tallying-end}
 use Rattle.brace_symbols.proofs.encoding.signed_length.Goals as goal
 
-pub loop-i-init : goal.loop-i-init
-loop-i-init c =
-    tallying-start _ _ _ _ _ c.head_width-width.ensures.value c.quintet_count.ensures c.spare_count-out.ensures
+pub loop-unit-init : goal.loop-unit-init
+loop-unit-init c =
+    tallying-start _ _ _ _ _ _ _ c.head_width.ensures.value c.quintet_count.ensures.value c.after_head-progress.ensures.styled c.after_head-progress.ensures.not_copying c.after_head-progress.ensures.spare
 
-pub unit_length-n-requires : goal.unit_length-n-requires
-unit_length-n-requires c = c.loop-i.invariant.few
-
-pub overflow_add-n-in-loop-i : goal.overflow_add-n-in-loop-i
-overflow_add-n-in-loop-i c = omega (arith, c.unit_length-n.ensures.upper_bound, c.loop-i.invariant.most)
+pub overflow_add-n-in-loop-unit : goal.overflow_add-n-in-loop-unit
+overflow_add-n-in-loop-unit c = omega (arith, c.unit_length-n.ensures.upper_bound, c.loop-unit.invariant.most)
 
 pub returns-then-n-gt63 : goal.returns-then-n-gt63
 returns-then-n-gt63 c =
-    tallying-over c.loop-i.invariant c.loop-i-test.true _ c.unit_length-n.ensures.value c.if-n-gt63.true
+    tallying-over c.loop-unit.invariant c.loop-unit-test.true _ c.unit_length-n.ensures.value c.if-n-gt63.true
 
-pub overflow_cast-unit : goal.overflow_cast-unit
-overflow_cast-unit c = omega (arith, c.type_inv.units c.loop-i.i)
-
-pub out_after-out-requires : goal.out_after-out-requires
-out_after-out-requires c = c.loop-i.invariant.few
-
-pub loop-i-preserved : goal.loop-i-preserved
-loop-i-preserved c =
-    tallying-turn c.loop-i.invariant c.loop-i-test.true _ c.unit_length-n.ensures.value c.if-n-gt63.false _ _ c.copying_after-copying.ensures c.out_after-out.ensures
+pub loop-unit-preserved : goal.loop-unit-preserved
+loop-unit-preserved c =
+    tallying-turn c.loop-unit.invariant c.loop-unit-test.true _ c.unit_length-n.ensures.value c.if-n-gt63.false _ _ _ c.after-progress.ensures.styled c.after-progress.ensures.copies c.after-progress.ensures.spare
 
 pub returns : goal.returns
-returns c = tallying-end c.loop-i.invariant c.loop-i-test.false
+returns c = tallying-end c.loop-unit.invariant c.loop-unit-test.false

@@ -6,11 +6,11 @@ use lib.Pow.{shr_le}
 use Rattle.brace_symbols.proofs.Codes.{width-over, width-under, found-code, passed-ldh, found_none}
 use Rattle.brace_symbols.proofs.quintets.bits_ahead.Goals as goal
 
-pub loop-i-init : goal.loop-i-init
-loop-i-init c = record { same = refl }
+pub loop-unit-init : goal.loop-unit-init
+loop-unit-init c = record { same = refl }
 
 pub overflow_cast-unit : goal.overflow_cast-unit
-overflow_cast-unit c = omega (arith, c.type_inv.units c.loop-i.i)
+overflow_cast-unit c = omega (arith, c.type_inv.units c.loop-unit.unit-index)
 
 pub overflow_sub-left : goal.overflow_sub-left
 overflow_sub-left c = width-over _ _ _ _ c.width.ensures c.requires
@@ -21,16 +21,16 @@ overflow_shr-result c = width-under _ _ _ _ c.width.ensures
 pub returns-then-not-is_ldh : goal.returns-then-not-is_ldh
 returns-then-not-is_ldh c =
     record {
-      value = found-code c.loop-i.invariant c.loop-i-test.true _ c.is_ldh.ensures c.if-not-is_ldh.true-raw _ _ c.width.ensures c.code.ensures.value;
+      value = found-code c.loop-unit.invariant c.loop-unit-test.true _ c.is_ldh.ensures c.if-not-is_ldh.true-raw _ _ c.width.ensures c.code.ensures.value;
       upper_bound = omega (arith, shr_le c.code.result (c.width.result - c.args.k), c.code.ensures.upper_bound);
     }
 
-pub loop-i-preserved : goal.loop-i-preserved
-loop-i-preserved c = passed-ldh c.loop-i.invariant c.loop-i-test.true _ c.is_ldh.ensures c.if-not-is_ldh.false-raw
+pub loop-unit-preserved : goal.loop-unit-preserved
+loop-unit-preserved c = passed-ldh c.loop-unit.invariant c.loop-unit-test.true _ c.is_ldh.ensures c.if-not-is_ldh.false-raw
 
 pub returns : goal.returns
 returns c =
     record {
-      value = found_none c.loop-i.invariant c.loop-i-test.false;
+      value = found_none c.loop-unit.invariant c.loop-unit-test.false;
       upper_bound = omega arith;
     }

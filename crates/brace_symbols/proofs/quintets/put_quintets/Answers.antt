@@ -1,33 +1,25 @@
 -- `quintets::put_quintets` meets its contract: the last quintets are left to store.
-use mathlib.Core.Path.{refl, sym, ◌∙◌}
+use mathlib.Core.Path.{refl}
 use native.Mathlib.Omega.{arith}
-use lib.ListN.{length-set}
-use Rattle.brace_symbols.proofs.Codes.{put_one, put-none}
+use Rattle.basis.proofs.Stores.{storing-all, storing-piece, storing-end, stored_one}
+use Rattle.brace_symbols.proofs.Codes.{next-quintet, no-quintets}
+use Rattle.brace_symbols.proofs.Units.{length-quintets}
 use Rattle.brace_symbols.proofs.quintets.put_quintets.Goals as goal
 
 pub loop-left-init : goal.loop-left-init
-loop-left-init c = (refl, refl, omega arith, refl)
-
-pub overflow_shr-symbols : goal.overflow_shr-symbols
-overflow_shr-symbols c = omega arith
+loop-left-init c = storing-all _ _
 
 pub bounds-symbols-to : goal.bounds-symbols-to
-bounds-symbols-to c = omega arith
+bounds-symbols-to c = let l = c.loop-left in omega (arith, l.invariant.count, l.invariant.long, length-quintets l.left c.args.value, length-quintets c.args.n c.args.value)
 
-pub loop-left-smaller : goal.loop-left-smaller
-loop-left-smaller c = omega arith
+pub overflow_add-to : goal.overflow_add-to
+overflow_add-to c = let l = c.loop-left in omega (arith, l.invariant.count, l.invariant.long, length-quintets l.left c.args.value, length-quintets c.args.n c.args.value)
 
 pub loop-left-preserved : goal.loop-left-preserved
-loop-left-preserved c =
-    let l = c.loop-left in (put_one _ _ _ _ _ c.loop-left-test.true refl ∙ l.invariant.0, omega arith, omega arith, rw length-set l.invariant.3)
+loop-left-preserved c = storing-piece c.loop-left.invariant (next-quintet _ _ _ c.loop-left-test.true refl) (stored_one _ _ _)
 
 pub shape_of-symbols : goal.shape_of-symbols
-shape_of-symbols c = c.loop-left.invariant.3
+shape_of-symbols c = c.loop-left.invariant.long
 
 pub returns : goal.returns
-returns c =
-    let l = c.loop-left in
-    record {
-      value = omega arith;
-      symbols_after = sym (put-none _ _ _ _ c.loop-left-test.false) ∙ l.invariant.0;
-    }
+returns c = storing-end c.loop-left.invariant (no-quintets _ _ c.loop-left-test.false)

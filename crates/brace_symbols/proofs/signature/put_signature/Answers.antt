@@ -1,22 +1,10 @@
 -- `signature::put_signature` meets its contract: four symbols are stored.
+use Prim.Native.Nat.{◌+◌}
 use mathlib.Core.Path.{refl}
-use native.Mathlib.Omega.{arith}
-use lib.ListN.{length-set}
-use Rattle.brace_symbols.proofs.Signed.{signature-put}
+use Rattle.basis.proofs.Stores.{stored-part}
+use Rattle.brace_format.specs.Signature.{signature}
 use Rattle.brace_symbols.proofs.signature.put_signature.Goals as goal
 
-pub bounds-symbols-at-2 : goal.bounds-symbols-at-2
-bounds-symbols-at-2 c = simp length-set (omega arith)
-
-pub bounds-symbols-at-3 : goal.bounds-symbols-at-3
-bounds-symbols-at-3 c = simp length-set (omega arith)
-
-pub bounds-symbols-at-4 : goal.bounds-symbols-at-4
-bounds-symbols-at-4 c = simp length-set (omega arith)
-
 pub returns : goal.returns
-returns c =
-    record {
-      value = refl;
-      symbols_after = signature-put _ _;
-    }
+unfolding signature
+returns c = rw c.copy_from_slice.ensures.after (stored-part c.args.symbols.now signature c.args.at (c.args.at + 4) refl c.requires)

@@ -1,19 +1,24 @@
 -- `write::write` meets its contract: an unknown number is refused, a known scheme writes.
-use mathlib.Core.Path.{refl, ap}
-use Rattle.basis.specs.Outcome.{bytes_outcome}
-use Rattle.basis.proofs.Outcome.{refusal-leaves, handed-leaves}
+use mathlib.Core.Path.{◌≡◌, refl, ap, ◌∙◌}
+use Rattle.std.proofs.Common.{Some, None}
+use Rattle.std.specs.Result.{result_ok}
+use Rattle.basis.specs.Outcome.{outcome_by, bytes_outcome}
+use Rattle.basis.proofs.Outcome.{refusal_is, handed_on, refusal-leaves, handed-leaves}
 use Rattle.firmware.specs.Answer.{write_outcome, written_label}
-use Rattle.firmware.proofs.Naming.{stop-unknown, pass-known, known_is}
+use Rattle.firmware.proofs.Naming.{stop-unknown, given-unknown, pass-known, known_is}
 use Rattle.basis.proofs.Clauses.{two_clauses}
 use Rattle.firmware.proofs.write.write.Goals as goal
 
-pub returns-in-Unknown : goal.returns-in-Unknown
-unfolding bytes_outcome write_outcome
-returns-in-Unknown c =
-    two_clauses (λ a b. record { result_value = a; label_after = b }) (refusal-leaves _ _ _ _ 11 0 (ap bytes_outcome c.bytes_error.ensures) (stop-unknown _ _ c.of_number-named.ensures _ c.in-Unknown.is))
+pub returns-in_err-scheme : goal.returns-in_err-scheme
+unfolding outcome_by write_outcome
+returns-in_err-scheme c =
+    let none : c.of_number.result ≡ None = c.ok_or.ensures.ok_part ∙ ap result_ok c.in_err-scheme.was in
+    let refusal = given-unknown _ _ c.of_number.ensures none c.ok_or.ensures.value c.in_err-scheme.was ∙ c.at.ensures in
+    two_clauses (λ a b. record { result_value = a; label_after = b }) (refusal-leaves _ _ _ _ 11 0 (ap bytes_outcome (handed_on c.from_residual.ensures) ∙ refusal_is refusal) (stop-unknown _ _ c.of_number.ensures _ none))
 
-pub returns-in-Known : goal.returns-in-Known
+pub returns : goal.returns
 unfolding write_outcome written_label
-returns-in-Known c =
-    let n = c.of_number-named.ensures in
-    two_clauses (λ a b. record { result_value = a; label_after = b }) (handed-leaves _ _ _ _ _ _ _ (pass-known _ _ n _ _ c.in-Known.is) refl (rw (known_is _ _ n _ c.in-Known.is) at c.write_by.ensures.result_value, rw (known_is _ _ n _ c.in-Known.is) at c.write_by.ensures.label_after))
+returns c =
+    let n = c.of_number.ensures in
+    let some : c.of_number.result ≡ Some c.in_ok-scheme.scheme = c.ok_or.ensures.ok_part ∙ ap result_ok c.in_ok-scheme.was in
+    two_clauses (λ a b. record { result_value = a; label_after = b }) (handed-leaves _ _ _ _ _ _ _ (pass-known _ _ n _ _ some) refl (rw (known_is _ _ n _ some) at c.write_by.ensures.result_value, rw (known_is _ _ n _ some) at c.write_by.ensures.label_after))

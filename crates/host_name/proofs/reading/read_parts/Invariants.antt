@@ -1,11 +1,6 @@
--- `reading::read_parts` meets its contract: label by label, and the last one behind the loop.
-use Prim.Native.Nat.{◌-◌}
-use lib.ListN.{length}
+-- `reading::read_parts` meets its contract: label by label.
 use Rattle.host_name.proofs.Turns.{Reading}
 use Rattle.host_name.proofs.reading.read_parts.Given as goal
 
-abbrev pub invariant-loop-end : goal.invariant-loop-end
-invariant-loop-end l = Reading l.name l.initial.made l.made l.index l.from l.at l.end
-
-abbrev pub decreases-loop-end : goal.decreases-loop-end
-decreases-loop-end l = length l.name - l.end
+abbrev pub invariant-loop-index : goal.invariant-loop-index
+invariant-loop-index l = Reading goal.iterator-loop-index.next_gives l.name l.initial.made l.made l.at l.index-iterator

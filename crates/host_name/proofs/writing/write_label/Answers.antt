@@ -5,8 +5,9 @@ use mathlib.Core.Path.{◌≡◌, refl, sym, ap, ◌∙◌}
 use lib.ListN.{length, drop}
 use borrow.Author.Tests.{not-true}
 use native.Mathlib.Omega.{arith}
-use Rattle.basis.specs.Outcome.{bytes_outcome}
-use Rattle.basis.proofs.Parts.{front-is, front_fits, front_long}
+use Rattle.basis.specs.Outcome.{outcome_by}
+use Rattle.basis.proofs.Outcome.{refusal_is}
+use Rattle.basis.proofs.Parts.{front-is}
 use Rattle.ascii.specs.Prefix.{has_prefix}
 use Rattle.ascii.proofs.HostLabel.{is-host}
 use Rattle.lace_format.specs.Prefix.{prefix}
@@ -27,26 +28,16 @@ copy_part-requires c =
       part_in_bounds = omega (arith, (is-host c.args.part.now host).short, c.requires);
     }
 
-pub slice_bounds-has_prefix-end : goal.slice_bounds-has_prefix-end
-slice_bounds-has_prefix-end c =
-    let a = c.args in
-    omega (arith, front_fits (length a.part.now) a.part.now (drop (length a.part.now) a.label.now) _ refl c.copy_part.ensures)
-
-pub slice_bounds-has_prefix-end-2 : goal.slice_bounds-has_prefix-end-2
-slice_bounds-has_prefix-end-2 c =
-    let a = c.args in
-    omega (arith, front_long (length a.part.now) a.part.now (drop (length a.part.now) a.label.now) _ refl c.copy_part.ensures)
-
 pub returns-then-has_prefix : goal.returns-then-has_prefix
-unfolding bytes_outcome
+unfolding outcome_by
 returns-then-has_prefix c =
     let yes : c.text_is_host_label.result ≡ true = search rules in
     let part = c.args.part.now in
     let begins = ap (has_prefix prefix) (sym (front-is (length part) part (drop (length part) c.args.label.now) _ refl c.copy_part.ensures)) ∙ sym c.has_prefix.ensures ∙ c.if-has_prefix.true in
-    two_clauses (λ a b. record { result_value = a; by_index = b }) (taken-for-lace part (sym c.text_is_host_label.ensures ∙ yes) begins _ (ap bytes_outcome c.bytes_error.ensures) _ _)
+    two_clauses (λ a b. record { result_value = a; by_index = b }) (taken-for-lace part (sym c.text_is_host_label.ensures ∙ yes) begins _ (refusal_is c.at.ensures) _ _)
 
 pub returns : goal.returns
-unfolding bytes_outcome
+unfolding outcome_by
 returns c =
     let yes : c.text_is_host_label.result ≡ true = search rules in
     let part = c.args.part.now in

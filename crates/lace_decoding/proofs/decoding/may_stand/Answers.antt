@@ -1,4 +1,5 @@
 -- Each arm answers by its place.
+use mathlib.Core.Path.{◌∙◌}
 use Rattle.lace_decoding.specs.Decoding.{may_stand}
 use Rattle.lace_decoding.proofs.decoding.may_stand.Goals as goal
 
@@ -8,7 +9,7 @@ returns-in-Count c = rw c.in-Count.is
 
 pub returns-in-High : goal.returns-in-High
 unfolding may_stand
-returns-in-High c = rw c.in-High.is
+returns-in-High c = c.ne.ensures ∙ rw c.in-High.is
 
 pub returns-in-Low : goal.returns-in-Low
 unfolding may_stand

@@ -2,7 +2,6 @@
 use Prim.Native.Nat.{ℕ, ◌+◌}
 use mathlib.Core.Path.{ap}
 use native.Mathlib.Omega.{arith}
-use Rattle.basis.specs.Outcome.{bytes_outcome, done}
 use Rattle.lace_encoding.proofs.EncodeLaws.{label-counted, label-stored}
 use Rattle.lace_encoding.proofs.encoding.put_label.Goals as goal
 
@@ -11,9 +10,8 @@ overflow_add-count c =
     omega (arith, c.requires, label-counted c.args.octets.now c.args.label.now _ c.requires c.put_prefix.ensures _ _ c.encode-answer.ensures.result_value c.bytes_written-count.ensures)
 
 pub returns : goal.returns
-unfolding bytes_outcome
 returns c =
     record {
-      result_value = ap (λ (n : ℕ). done (4 + n)) (label-counted c.args.octets.now c.args.label.now _ c.requires c.put_prefix.ensures _ _ c.encode-answer.ensures.result_value c.bytes_written-count.ensures);
+      value = ap (λ (n : ℕ). 4 + n) (label-counted c.args.octets.now c.args.label.now _ c.requires c.put_prefix.ensures _ _ c.encode-answer.ensures.result_value c.bytes_written-count.ensures);
       label_after = label-stored c.args.octets.now c.args.label.now _ c.requires c.put_prefix.ensures _ c.encode-answer.ensures.characters_after;
     }

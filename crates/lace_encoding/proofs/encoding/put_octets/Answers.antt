@@ -6,7 +6,7 @@ use Rattle.lace_encoding.proofs.encoding.put_octets.Goals as goal
 
 pub returns-then-run_count-n : goal.returns-then-run_count-n
 returns-then-run_count-n c =
-    two_clauses (λ a b. record { value = a; octets_after = b }) (octets-runs _ _ c.run_count.ensures.value _ _ _ (λ k _. omega (arith, c.type_inv.units k)) (omega (arith, c.if-run_count-n.true))
+    two_clauses (λ a b. record { value = a; octets_after = b }) (octets-runs _ _ c.run_count.ensures.value _ _ _ (omega (arith, c.if-run_count-n.true))
     (c.put_runs.ensures.value, c.put_runs.ensures.octets_after))
 
 pub returns : goal.returns

@@ -1,23 +1,18 @@
 -- A unit of the same high octet stores its low octet; another begins a run.
-use native.Mathlib.Omega.{arith}
-use lib.ListN.{length-set}
+use Prim.Native.Nat.{◌/◌}
+use mathlib.Core.Path.{sym, ap, ◌∙◌}
+use lib.ListN.{get_or}
+use Rattle.basis.proofs.Parts.{part-is}
+use Rattle.lace_encoding.specs.Internal.{same_high}
 use Rattle.lace_encoding.proofs.EncodeLaws.{put_low, put-start}
-use Rattle.basis.proofs.Clauses.{two_clauses}
 use Rattle.lace_encoding.proofs.encoding.put_run_unit.Goals as goal
 
-pub returns-then-high-before : goal.returns-then-high-before
-returns-then-high-before c =
-    two_clauses (λ a b. record { value = a; octets_after = b }) (put_low _ c.args.i _ c.requires.0 _ _ c.if-high-before.true)
-
-pub overflow_cast-octets-3 : goal.overflow_cast-octets-3
-overflow_cast-octets-3 c = omega (arith, c.type_inv.units c.args.i)
-
-pub bounds-octets-at-3 : goal.bounds-octets-at-3
-bounds-octets-at-3 c = simp length-set (omega arith)
-
-pub bounds-octets-at-4 : goal.bounds-octets-at-4
-bounds-octets-at-4 c = simp length-set (omega arith)
+pub returns-then-eq : goal.returns-then-eq
+returns-then-eq c =
+    put_low _ c.args.i c.args.before c.requires.0 _ _ (sym c.eq.ensures ∙ c.if-eq.true)
 
 pub returns : goal.returns
 returns c =
-    two_clauses (λ a b. record { value = a; octets_after = b }) (put-start _ c.args.i _ c.requires.0 _ _ c.if-high-before.false _ c.run_length.ensures.value)
+    let i = c.args.i in
+    let units = c.args.units.now in
+    put-start units i c.args.before c.requires.0 _ _ (sym c.eq.ensures ∙ c.if-eq.false) _ (c.run_length.ensures.value ∙ ap (same_high (get_or units i 0 / 256)) (part-is i units))

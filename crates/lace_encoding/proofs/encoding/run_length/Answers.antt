@@ -1,28 +1,21 @@
--- The loop counts the units of the high octet; what is left is the count from the next unit on.
+-- The first unit of another high octet ends the run.
+use Prim.Native.Nat.{◌/◌}
+use mathlib.Core.Path.{◌∙◌}
+use mathlib.Core.Bool.{not}
+use lib.Dec.{eqb}
 use native.Mathlib.Omega.{arith}
-use Rattle.lace_encoding.proofs.EncodeLaws.{high-more, high-other, high_end}
+use borrow.Author.Tests.{tests}
+use Rattle.std.proofs.Common.{rules}
+use Rattle.std.proofs.lemmas.Iterator.{YieldsList-from_slice}
+use Rattle.basis.proofs.Chains.{first_from_position}
+use Rattle.lace_encoding.proofs.EncodeLaws.{high-first, high-few}
 use Rattle.lace_encoding.proofs.encoding.run_length.Goals as goal
-
-pub loop-i-init : goal.loop-i-init
-loop-i-init c = (omega arith, omega arith, omega arith)
-
-pub returns-then-units-i : goal.returns-then-units-i
-returns-then-units-i c =
-    let l = c.loop-i in
-    record {
-      value = high-other _ _ l.i _ _ l.invariant.2 (omega arith) c.if-units-i.true;
-      upper_bound = l.invariant.1;
-    }
-
-pub loop-i-preserved : goal.loop-i-preserved
-loop-i-preserved c =
-    let l = c.loop-i in
-    (omega arith, omega arith, high-more _ _ l.i _ _ l.invariant.2 (omega arith) c.if-units-i.false)
 
 pub returns : goal.returns
 returns c =
-    let l = c.loop-i in
+    let high = c.args.high in
+    let is = c.unwrap_or.ensures ∙ first_from_position (λ u. not (eqb (u / 256) high)) _ _ _ c.position.ensures.ran (YieldsList-from_slice _ c.iter.ensures.rest) (λ x q k. search (rules, tests)) (λ x q k. search (rules, tests)) ∙ high-first high c.args.units.now in
     record {
-      value = high_end _ _ l.i _ _ l.invariant.2 (omega arith);
-      upper_bound = l.invariant.1;
+      value = is;
+      upper_bound = omega (arith, is, high-few high c.args.units.now);
     }

@@ -10,7 +10,7 @@ use Rattle.nametable_differences.proofs.lines.put_counts.Goals as goal
 
 pub overflow_add-result : goal.overflow_add-result
 overflow_add-result c =
-    omega (arith, (let a = c.args in let n = a.counts in let line = counts_line n.same n.other n.respelled n.left n.right in let old = take (length a.out.now - a.at) (drop a.at a.out.now) in stored-behind a.out.now line _ a.at _ c.requires (line-written line old line refl (behind-fits a.out.now line a.at c.requires) _ _ (c.counts_line-answer.ensures.result_value, c.counts_line-answer.ensures.out_after) _ c.bytes_written.ensures)).count, c.requires)
+    omega (arith, (let a = c.args in let n = a.counts in let line = counts_line n.same n.other n.respelled n.left n.right in let old = take (length a.out.now - a.at) (drop a.at a.out.now) in stored-behind a.out.now line _ a.at _ c.requires (line-written line old line refl (behind-fits a.out.now line a.at c.requires) _ _ (c.counts_line.ensures.result_value, c.counts_line.ensures.out_after) _ c.bytes_written.ensures)).count, c.requires)
 
 pub returns : goal.returns
 returns c =
@@ -19,4 +19,4 @@ returns c =
     let line = counts_line n.same n.other n.respelled n.left n.right in
     let old = take (length a.out.now - a.at) (drop a.at a.out.now) in
     stored-behind a.out.now line _ a.at _ c.requires
-    (line-written line old line refl (behind-fits a.out.now line a.at c.requires) _ _ (c.counts_line-answer.ensures.result_value, c.counts_line-answer.ensures.out_after) _ c.bytes_written.ensures)
+    (line-written line old line refl (behind-fits a.out.now line a.at c.requires) _ _ (c.counts_line.ensures.result_value, c.counts_line.ensures.out_after) _ c.bytes_written.ensures)

@@ -13,9 +13,9 @@ use Rattle.nametable_differences.proofs.lines.put_refusal.Goals as goal
 pub returns : goal.returns
 returns c =
     let a = c.args in
-    let n = c.code_number-number in
-    let whole = side_refused_line a.side.now (number_of a.code) a.position in
-    let same : n.result ≡ number_of a.code = n.ensures in
-    let fits : length (side_refused_line a.side.now n.result a.position) ≤ length a.out.now
-    = omega (arith, refusal-fits a.side.now n.result a.position c.requires.side_len_bound (omega arith) (omega arith), c.requires.report_capacity_in_bounds) in
-    two_clauses (λ a b. record { value = a; out_after = b }) (line-written _ a.out.now whole (ap (λ (k : ℕ). side_refused_line a.side.now k a.position) same) (rw same at fits) _ _ (c.side_refused_line.ensures.result_value, c.side_refused_line.ensures.out_after) _ c.bytes_written.ensures)
+    let n = c.from-number in
+    let whole = side_refused_line a.side.now (number_of a.refusal.code) a.refusal.position in
+    let same : n.result ≡ number_of a.refusal.code = n.ensures in
+    let fits : length (side_refused_line a.side.now n.result a.refusal.position) ≤ length a.out.now
+    = omega (arith, refusal-fits a.side.now n.result a.refusal.position c.requires.side_len_bound (omega arith) (omega arith), c.requires.report_capacity_in_bounds) in
+    two_clauses (λ a b. record { value = a; out_after = b }) (line-written _ a.out.now whole (ap (λ (k : ℕ). side_refused_line a.side.now k a.refusal.position) same) (rw same at fits) _ _ (c.side_refused_line.ensures.result_value, c.side_refused_line.ensures.out_after) _ c.bytes_written.ensures)

@@ -9,19 +9,19 @@ use Rattle.nametable_list.proofs.listing.put_entry.Goals as goal
 
 pub slice_bounds-points-end : goal.slice_bounds-points-end
 slice_bounds-points-end c =
-    points-fit _ _ c.requires.found _ (omega arith) _ c.judged_entry-answer.ensures.result_value _ _ _ c.in-Entry.is _ _ c.judged_entry-answer.ensures.text_after
+    points-fit _ _ c.requires.found _ (omega arith) _ c.judged_entry.ensures.result_value _ c.in-Ok.is _ _ c.judged_entry.ensures.text_after
 
 pub slice_bounds-list_line-end : goal.slice_bounds-list_line-end
 slice_bounds-list_line-end c =
-    points-long _ _ c.requires.found _ (omega arith) _ c.judged_entry-answer.ensures.result_value _ _ _ c.in-Entry.is _ _ c.judged_entry-answer.ensures.text_after
+    points-long _ _ c.requires.found _ (omega arith) _ c.judged_entry.ensures.result_value _ c.in-Ok.is _ _ c.judged_entry.ensures.text_after
 
-pub returns-in-Error : goal.returns-in-Error
-returns-in-Error c =
-    two_clauses (λ a b. record { value = a; out_after = b }) (absurd (never-error _ _ _ (c.requires.found _ (omega arith)) _ c.judged_entry-answer.ensures.result_value _ _ c.in-Error.is))
+pub returns-in-Err : goal.returns-in-Err
+returns-in-Err c =
+    two_clauses (λ a b. record { value = a; out_after = b }) (absurd (never-error _ _ _ (c.requires.found _ (omega arith)) _ c.judged_entry.ensures.result_value _ c.in-Err.is))
 
-pub returns-in-Entry : goal.returns-in-Entry
-returns-in-Entry c =
+pub returns-in-Ok : goal.returns-in-Ok
+returns-in-Ok c =
     let a = c.args in
     two_clauses (λ a b. record { value = a; out_after = b }) (line-written _ a.out.now (entry_line a.table.now a.index)
-    (line-is _ _ c.requires.found _ (omega arith) _ c.judged_entry-answer.ensures.result_value _ _ _ c.in-Entry.is _ _ c.judged_entry-answer.ensures.text_after _ c.letter-letter.ensures)
+    (line-is _ _ c.requires.found _ (omega arith) _ c.judged_entry.ensures.result_value _ c.in-Ok.is _ _ c.judged_entry.ensures.text_after _ c.letter-letter.ensures)
     (omega (arith, line-fits a.table.now a.index c.requires.found)) _ _ (c.list_line.ensures.result_value, c.list_line.ensures.out_after) _ c.bytes_written.ensures)

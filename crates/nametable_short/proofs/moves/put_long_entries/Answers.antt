@@ -13,13 +13,13 @@ use Rattle.nametable_short.proofs.moves.put_long_entries.Goals as goal
 
 pub loop-i-init : goal.loop-i-init
 loop-i-init c =
-    let a = c.args in let z : a.count - 0 ≡ a.count = omega arith in (omega arith, c.requires.0, refl, rw z (storing-all a.table.now (long_entries a.count (drop header_length a.short.now))))
+    let a = c.args in let z : a.count - 0 ≡ a.count = omega arith in (c.requires.0, refl, rw z (storing-all a.table.now (long_entries a.count (drop header_length a.short.now))))
 
 pub overflow_add-next : goal.overflow_add-next
 overflow_add-next c = omega arith
 
 pub slice_bounds-put_long-end : goal.slice_bounds-put_long-end
-slice_bounds-put_long-end c = (ends_at c.args.short.now c.loop-i.start _ c.loop-i.invariant.1 c.end_of-end.ensures).inside
+slice_bounds-put_long-end c = (ends_at c.args.short.now c.loop-i.start _ c.loop-i.invariant.0 c.end_of-end.ensures).inside
 
 pub slice_bounds-put_long-count-in-loop-i : goal.slice_bounds-put_long-count-in-loop-i
 slice_bounds-put_long-count-in-loop-i c = omega arith
@@ -28,24 +28,17 @@ pub slice_bounds-put_long-start-in-loop-i : goal.slice_bounds-put_long-start-in-
 slice_bounds-put_long-start-in-loop-i c = omega arith
 
 pub slice_bounds-put_long-end-in-loop-i : goal.slice_bounds-put_long-end-in-loop-i
-slice_bounds-put_long-end-in-loop-i c = omega (arith, c.loop-i.invariant.2, c.loop-i.invariant.3.long, c.requires.2)
-
-pub overflow_add-i : goal.overflow_add-i
-overflow_add-i c = omega arith
-
-pub loop-i-smaller : goal.loop-i-smaller
-loop-i-smaller c = omega arith
+slice_bounds-put_long-end-in-loop-i c = omega (arith, c.loop-i.invariant.1, c.loop-i.invariant.2.long, c.requires.2)
 
 pub loop-i-preserved : goal.loop-i-preserved
 loop-i-preserved c =
-    let ends = ends_at c.args.short.now c.loop-i.start _ c.loop-i.invariant.1 c.end_of-end.ensures in
-    let part = entry-part-long c.loop-i.table c.loop-i.at (omega (arith, c.loop-i.invariant.2, c.loop-i.invariant.3.long, c.requires.2)) in (
-      omega arith,
+    let ends = ends_at c.args.short.now c.loop-i.start _ c.loop-i.invariant.0 c.end_of-end.ensures in
+    let part = entry-part-long c.loop-i.table c.loop-i.at (omega (arith, c.loop-i.invariant.1, c.loop-i.invariant.2.long, c.requires.2)) in (
       ends.inside,
-      omega (arith, c.loop-i.invariant.2),
-      put-long-turn c.args.short.now c.args.count c.loop-i.i c.loop-i.start c.loop-i-test.true _ ends c.args.table.now c.loop-i.table _ c.loop-i.at (c.put_long.ensures ∙ filled-own _ _ (part ∙ sym (long-size _))) (omega (arith, c.loop-i.invariant.2, c.loop-i.invariant.3.long, c.requires.2)) c.loop-i.invariant.3,
+      omega (arith, c.loop-i.invariant.1),
+      put-long-turn c.args.short.now c.args.count c.loop-i._i c.loop-i.start c.loop-i-test.true _ ends c.args.table.now c.loop-i.table _ c.loop-i.at (c.put_long.ensures ∙ filled-own _ _ (part ∙ sym (long-size _))) (omega (arith, c.loop-i.invariant.1, c.loop-i.invariant.2.long, c.requires.2)) c.loop-i.invariant.2,
     )
 
 pub returns : goal.returns
 returns c =
-    let n : c.loop-i.at ≡ table_length c.args.count = omega (arith, c.loop-i.invariant.2) in rw n at (storing-end c.loop-i.invariant.3 (long-none c.args.short.now c.args.count c.loop-i.i c.loop-i.start c.loop-i-test.false))
+    let n : c.loop-i.at ≡ table_length c.args.count = omega (arith, c.loop-i.invariant.1) in rw n at (storing-end c.loop-i.invariant.2 (long-none c.args.short.now c.args.count c.loop-i._i c.loop-i.start c.loop-i-test.false))

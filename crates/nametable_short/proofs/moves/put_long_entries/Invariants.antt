@@ -1,5 +1,5 @@
 -- `moves::put_long_entries` meets its contract: the long entries from i on are left to store.
-use Prim.Native.Nat.{◌-◌, ◌≤◌}
+use Prim.Native.Nat.{◌≤◌}
 use mathlib.Core.Path.{◌≡◌}
 use lib.ListN.{length, drop}
 use Rattle.basis.specs.Internal.{StoringFrom}
@@ -10,8 +10,5 @@ use Rattle.nametable_short.proofs.moves.put_long_entries.Given as goal
 
 abbrev pub invariant-loop-i : goal.invariant-loop-i
 invariant-loop-i l =
-    (l.i ≤ l.count) × (l.start ≤ length l.short) × (l.at ≡ table_length l.i)
-    × StoringFrom header_length l.initial.table (long_entries l.count (drop header_length l.short)) l.table l.at (long_left l.short l.count l.i l.start)
-
-abbrev pub decreases-loop-i : goal.decreases-loop-i
-decreases-loop-i l = l.count - l.i
+    (l.start ≤ length l.short) × (l.at ≡ table_length l._i)
+    × StoringFrom header_length l.initial.table (long_entries l.count (drop header_length l.short)) l.table l.at (long_left l.short l.count l._i l.start)

@@ -1,10 +1,10 @@
 -- `moves::put_long_table` meets its contract: the room, then the header and the entries.
 use Prim.Native.Nat.{◌+◌, ◌*◌}
-use mathlib.Core.Path.{◌≡◌, ap}
+use mathlib.Core.Path.{◌≡◌}
 use native.Mathlib.Omega.{arith}
 use lib.ListN.{length, drop}
-use Rattle.basis.specs.Outcome.{bytes_outcome}
-use Rattle.basis.proofs.Outcome.{refusal-leaves}
+use Rattle.basis.specs.Outcome.{outcome_by}
+use Rattle.basis.proofs.Outcome.{refusal-leaves, refusal_is}
 use Rattle.nametable_format.specs.Format.{header_kind, header_length}
 use Rattle.nametable_short.specs.Answer.{long_entries, to_long_outcome}
 use Rattle.nametable_short_read.proofs.TableLaws.{short-read-table}
@@ -21,12 +21,12 @@ overflow_add-needed c =
     let w = short-read-table c.args.short.now c.args.count c.requires in omega (arith, w.header.few, w.counted)
 
 pub returns-then-table-needed : goal.returns-then-table-needed
-unfolding bytes_outcome to_long_outcome
+unfolding outcome_by to_long_outcome
 returns-then-table-needed c =
     let a = c.args in
     let w = short-read-table a.short.now a.count c.requires in
     let size : 3 + 67 * a.count ≡ 3 + length (long_entries a.count (drop header_length a.short.now)) = omega (arith, long-entries-size a.count (drop header_length a.short.now)) in
-    two_clauses (λ a b. record { result_value = a; table_after = b }) (refusal-leaves _ _ _ _ 1 0 (ap bytes_outcome c.bytes_error.ensures)
+    two_clauses (λ a b. record { result_value = a; table_after = b }) (refusal-leaves _ _ _ _ 1 0 (refusal_is c.at.ensures)
     (move-no-room _ c.requires header_kind a.short.now _ _ a.table.now (long-made a.short.now w.counted) size c.if-table-needed.true))
 
 pub put_header-requires : goal.put_header-requires
@@ -39,7 +39,7 @@ put_long_entries-requires c =
     (w.header.long, omega (arith, w.header.few, w.counted), omega (arith, c.if-table-needed.false, c.put_header.auto.moved))
 
 pub returns : goal.returns
-unfolding bytes_outcome to_long_outcome
+unfolding outcome_by to_long_outcome
 returns c =
     let a = c.args in
     let w = short-read-table a.short.now a.count c.requires in

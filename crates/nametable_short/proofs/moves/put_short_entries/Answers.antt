@@ -12,7 +12,7 @@ use Rattle.nametable_short.proofs.moves.put_short_entries.Goals as goal
 
 pub loop-i-init : goal.loop-i-init
 loop-i-init c =
-    let a = c.args in let z : a.count - 0 ≡ a.count = omega arith in (omega arith, omega arith, rw z (storing-all a.short.now (short_entries a.count (drop header_length a.table.now))))
+    let a = c.args in let z : a.count - 0 ≡ a.count = omega arith in (omega arith, rw z (storing-all a.short.now (short_entries a.count (drop header_length a.table.now))))
 
 pub overflow_mul-start : goal.overflow_mul-start
 overflow_mul-start c = omega arith
@@ -49,19 +49,13 @@ slice_bounds-put_short-start-in-loop-i c = omega arith
 
 pub slice_bounds-put_short-end-in-loop-i : goal.slice_bounds-put_short-end-in-loop-i
 slice_bounds-put_short-end-in-loop-i c =
-    next-inside c.args.table.now c.args.count c.loop-i.i c.loop-i-test.true c.args.short.now c.loop-i.short c.loop-i.at refl c.kind_for-kind.ensures c.room_of.ensures.0 c.requires.table_in_bounds c.loop-i.invariant.2
-
-pub overflow_add-i : goal.overflow_add-i
-overflow_add-i c = omega arith
-
-pub loop-i-smaller : goal.loop-i-smaller
-loop-i-smaller c = omega arith
+    next-inside c.args.table.now c.args.count c.loop-i.i c.loop-i-test.true c.args.short.now c.loop-i.short c.loop-i.at refl c.kind_for-kind.ensures c.room_of.ensures.0 c.requires.table_in_bounds c.loop-i.invariant.1
 
 pub loop-i-preserved : goal.loop-i-preserved
 loop-i-preserved c =
-    let room = put-short-room c.args.table.now c.args.count c.loop-i.i c.loop-i-test.true refl c.kind_for-kind.ensures c.room_of.ensures.0 c.loop-i.short c.loop-i.at (next-inside c.args.table.now c.args.count c.loop-i.i c.loop-i-test.true c.args.short.now c.loop-i.short c.loop-i.at refl c.kind_for-kind.ensures c.room_of.ensures.0 c.requires.table_in_bounds c.loop-i.invariant.2) in
-    (omega arith, omega arith, put-short-turn c.args.table.now c.args.count c.loop-i.i c.loop-i-test.true refl c.kind_for-kind.ensures c.room_of.ensures.0 c.loop-i.short c.loop-i.at (next-inside c.args.table.now c.args.count c.loop-i.i c.loop-i-test.true c.args.short.now c.loop-i.short c.loop-i.at refl c.kind_for-kind.ensures c.room_of.ensures.0 c.requires.table_in_bounds c.loop-i.invariant.2) c.args.short.now _ (c.put_short.ensures ∙ filled-own _ _ (room ∙ sym (short-size _))) c.loop-i.invariant.2)
+    let room = put-short-room c.args.table.now c.args.count c.loop-i.i c.loop-i-test.true refl c.kind_for-kind.ensures c.room_of.ensures.0 c.loop-i.short c.loop-i.at (next-inside c.args.table.now c.args.count c.loop-i.i c.loop-i-test.true c.args.short.now c.loop-i.short c.loop-i.at refl c.kind_for-kind.ensures c.room_of.ensures.0 c.requires.table_in_bounds c.loop-i.invariant.1) in
+    (omega arith, put-short-turn c.args.table.now c.args.count c.loop-i.i c.loop-i-test.true refl c.kind_for-kind.ensures c.room_of.ensures.0 c.loop-i.short c.loop-i.at (next-inside c.args.table.now c.args.count c.loop-i.i c.loop-i-test.true c.args.short.now c.loop-i.short c.loop-i.at refl c.kind_for-kind.ensures c.room_of.ensures.0 c.requires.table_in_bounds c.loop-i.invariant.1) c.args.short.now _ (c.put_short.ensures ∙ filled-own _ _ (room ∙ sym (short-size _))) c.loop-i.invariant.1)
 
 pub returns : goal.returns
 returns c =
-    storing-done c.args.short.now _ _ _ (storing-end c.loop-i.invariant.2 (short_none c.args.table.now c.args.count c.loop-i.i c.loop-i-test.false))
+    storing-done c.args.short.now _ _ _ (storing-end c.loop-i.invariant.1 (short_none c.args.table.now c.args.count c.loop-i.i c.loop-i-test.false))

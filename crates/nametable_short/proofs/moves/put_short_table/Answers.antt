@@ -1,8 +1,7 @@
 -- `moves::put_short_table` meets its contract: the room, then the header and the entries.
-use mathlib.Core.Path.{ap}
 use native.Mathlib.Omega.{arith}
-use Rattle.basis.specs.Outcome.{bytes_outcome}
-use Rattle.basis.proofs.Outcome.{refusal-leaves}
+use Rattle.basis.specs.Outcome.{outcome_by}
+use Rattle.basis.proofs.Outcome.{refusal-leaves, refusal_is}
 use Rattle.nametable.proofs.TableLaws.{read_table}
 use Rattle.nametable_short_format.specs.Format.{short_header_kind}
 use Rattle.nametable_short.specs.Answer.{to_short_outcome}
@@ -15,11 +14,11 @@ short_bytes-needed-requires c =
     let w = read_table c.args.table.now c.args.count c.requires in (w.long, omega (arith, w.few, w.counted))
 
 pub returns-then-short-needed : goal.returns-then-short-needed
-unfolding bytes_outcome to_short_outcome
+unfolding outcome_by to_short_outcome
 returns-then-short-needed c =
     let a = c.args in
     let w = read_table a.table.now a.count c.requires in
-    two_clauses (λ a b. record { result_value = a; short_after = b }) (refusal-leaves _ _ _ _ 1 0 (ap bytes_outcome c.bytes_error.ensures)
+    two_clauses (λ a b. record { result_value = a; short_after = b }) (refusal-leaves _ _ _ _ 1 0 (refusal_is c.at.ensures)
     (move-no-room _ c.requires short_header_kind a.table.now _ _ a.short.now (short-made a.table.now w.counted) c.short_bytes-needed.ensures c.if-short-needed.true))
 
 pub put_header-requires : goal.put_header-requires
@@ -35,7 +34,7 @@ put_short_entries-requires c =
     }
 
 pub returns : goal.returns
-unfolding bytes_outcome to_short_outcome
+unfolding outcome_by to_short_outcome
 returns c =
     let a = c.args in
     let w = read_table a.table.now a.count c.requires in

@@ -1,5 +1,5 @@
 -- `moves::short_bytes` meets its contract: the bytes counted and those of the entries left are all.
-use Prim.Native.Nat.{◌+◌, ◌-◌, ◌*◌, ◌≤◌}
+use Prim.Native.Nat.{◌+◌, ◌*◌, ◌≤◌}
 use mathlib.Core.Path.{◌≡◌}
 use lib.ListN.{length, drop}
 use Rattle.nametable_format.specs.Format.{header_length}
@@ -8,7 +8,4 @@ use Rattle.nametable_short.proofs.MoveLaws.{short_left}
 use Rattle.nametable_short.proofs.moves.short_bytes.Given as goal
 
 abbrev pub invariant-loop-i : goal.invariant-loop-i
-invariant-loop-i l = (l.i ≤ l.count) × (l.bytes ≤ 3 + 68 * l.i) × (l.bytes + length (short_left l.table l.count l.i) ≡ header_length + length (short_entries l.count (drop header_length l.table)))
-
-abbrev pub decreases-loop-i : goal.decreases-loop-i
-decreases-loop-i l = l.count - l.i
+invariant-loop-i l = (l.bytes ≤ 3 + 68 * l.i) × (l.bytes + length (short_left l.table l.count l.i) ≡ header_length + length (short_entries l.count (drop header_length l.table)))

@@ -8,8 +8,5 @@ use Rattle.nametable_short_read.proofs.entries.judge.Given as goal
 
 abbrev pub invariant-loop-i : goal.invariant-loop-i
 invariant-loop-i l =
-    (l.i ≤ l.count) × (l.least ≤ 65536) × (l.start ≤ length l.table)
+    (l.least ≤ 65536) × (l.start ≤ length l.table)
     × (short_entries_judged l.i l.least (l.count - l.i) (drop l.start l.table) l.count ≡ short_entries_judged 0 0 l.count (drop header_length l.table) l.count)
-
-abbrev pub decreases-loop-i : goal.decreases-loop-i
-decreases-loop-i l = l.count - l.i

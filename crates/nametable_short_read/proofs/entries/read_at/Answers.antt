@@ -1,5 +1,6 @@
 -- `entries::read_at` meets its contract: the index, then the entry that begins and ends there.
-use mathlib.Core.Path.{refl}
+use mathlib.Core.Path.{refl, ap}
+use Rattle.std.proofs.Common.{Err}
 use Rattle.nametable.proofs.EntryLaws.{refusal-answers}
 use Rattle.nametable_short_format.proofs.EntryLaws.{ends_at}
 use Rattle.nametable_short_read.proofs.TableLaws.{short-read-table, past-last, part-found, part-sized, read_found}
@@ -8,7 +9,7 @@ use Rattle.nametable_short_read.proofs.entries.read_at.Goals as goal
 
 pub returns-then-count-index : goal.returns-then-count-index
 returns-then-count-index c =
-    two_clauses (λ a b. record { result_value = a; text_after = b }) (refusal-answers _ _ _ _ _ refl refl (past-last c.args.table.now c.args.count c.requires.table_value _ _ c.requires.text_capacity_in_bounds c.if-count-index.true))
+    two_clauses (λ a b. record { result_value = a; text_after = b }) (refusal-answers _ _ _ _ _ refl (ap Err c.at.ensures) (past-last c.args.table.now c.args.count c.requires.table_value _ _ c.requires.text_capacity_in_bounds c.if-count-index.true))
 
 pub start_of-start-requires : goal.start_of-start-requires
 start_of-start-requires c = (short-read-table c.args.table.now c.args.count c.requires.table_value).header.long

@@ -1,6 +1,7 @@
 -- `entries::read_short` meets its contract: another kind than the length asks, or the long entry
 -- read.
-use mathlib.Core.Path.{refl, sym, ◌∙◌}
+use mathlib.Core.Path.{refl, sym, ap, ◌∙◌}
+use Rattle.std.proofs.Common.{Err}
 use native.Mathlib.Omega.{arith}
 use Rattle.nametable.proofs.EntryLaws.{refusal-answers}
 use Rattle.nametable_short_format.proofs.EntryLaws.{long-size, short-bounds, filled-own}
@@ -16,7 +17,7 @@ bounds-short-0 c = omega (arith, (short-bounds _ _ c.requires.short_len).0)
 
 pub returns-then-kind-short : goal.returns-then-kind-short
 returns-then-kind-short c =
-    two_clauses (λ a b. record { result_value = a; text_after = b }) (refusal-answers _ _ _ _ _ refl refl (other-kind-read _ _ _ c.kind_for-kind.ensures c.if-kind-short.true))
+    two_clauses (λ a b. record { result_value = a; text_after = b }) (refusal-answers _ _ _ _ _ refl (ap Err c.at.ensures) (other-kind-read _ _ _ c.kind_for-kind.ensures c.if-kind-short.true))
 
 pub returns : goal.returns
 returns c =

@@ -8,13 +8,13 @@ use Rattle.nametable_short_read.proofs.entries.start_of.Goals as goal
 
 pub loop-i-init : goal.loop-i-init
 unfolding from_entry
-loop-i-init c = (omega arith, record { from = refl; inside = c.requires })
+loop-i-init c = record { from = refl; inside = c.requires }
 
 pub loop-i-preserved : goal.loop-i-preserved
 unfolding from_entry
 loop-i-preserved c =
-    let b = c.loop-i.invariant.1 in (omega arith, begins-next _ _ _ _ b (ends_at c.args.table.now c.loop-i.start _ b.inside c.end_of-start.ensures))
+    let b = c.loop-i.invariant in begins-next _ _ _ _ b (ends_at c.args.table.now c.loop-i.start _ b.inside c.end_of-start.ensures)
 
 pub returns : goal.returns
 unfolding from_entry
-returns c = let n : c.loop-i.i ≡ c.args.index = omega arith in rw n at c.loop-i.invariant.1
+returns c = let n : c.loop-i._i ≡ c.args.index = omega arith in rw n at c.loop-i.invariant

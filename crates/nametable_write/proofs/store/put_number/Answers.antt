@@ -1,4 +1,6 @@
 -- `store::put_number` meets its contract: two stores, the second at the next index.
+use Prim.Native.Nat.{◌/◌, ◌%◌}
+use mathlib.Core.Path.{◌≡◌}
 use native.Mathlib.Numerals.{add-one}
 use native.Mathlib.Omega.{arith}
 use lib.ListN.{length-set}
@@ -10,4 +12,4 @@ bounds-bytes-i-2 c = simp length-set (omega arith)
 
 pub returns : goal.returns
 unfolding number_bytes
-returns c = rw (add-one c.args.i)
+returns c = let e : c.args.number / 256 % 256 ≡ c.args.number / 256 = omega arith in rw (add-one c.args.i, c.to_be_bytes.ensures, e)

@@ -3,16 +3,8 @@ use native.Mathlib.Omega.{arith}
 use Rattle.report.proofs.DigitLaws.{digits-length, count-few}
 use Rattle.report.proofs.digits.digits_length.Goals as goal
 
-pub returns-then-n-least : goal.returns-then-n-least
-returns-then-n-least c =
-    let a = c.args in
-    record {
-      value = omega (arith, digits-length a.base a.least a.number);
-      upper_bound = omega arith;
-    }
-
-pub returns-else-n-least : goal.returns-else-n-least
-returns-else-n-least c =
+pub returns : goal.returns
+returns c =
     let a = c.args in
     record {
       value = omega (arith, digits-length a.base a.least a.number);

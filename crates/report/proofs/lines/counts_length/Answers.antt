@@ -6,4 +6,4 @@ use Rattle.report.proofs.lines.counts_length.Goals as goal
 pub returns : goal.returns
 returns c =
     let a = c.args in
-    omega (arith, counts-length a.same a.other a.respelled a.left a.right)
+    omega (arith, counts-length a.counts.same a.counts.other a.counts.respelled a.counts.left a.counts.right)

@@ -1,25 +1,16 @@
--- `points::first_not_point` meets its contract: every number passed is a point.
-use mathlib.Core.Path.{sym, ap, ◌∙◌}
+-- `points::first_not_point` meets its contract: the position of the first number of which the test holds.
+use Rattle.std.proofs.Common.{rules}
+use borrow.Author.Tests.{tests}
+use mathlib.Core.Path.{◌∙◌}
 use mathlib.Core.Bool.{not}
-use native.Mathlib.Omega.{arith}
-use Rattle.basis.proofs.Scan.{passed_none, passed-more, found_first, found_none}
-use Rattle.surrogates.specs.Points.{first_not_point}
+use Rattle.std.proofs.lemmas.Iterator.{YieldsList-from_slice}
+use Rattle.basis.proofs.Chains.{first_from_position}
+use Rattle.surrogates.specs.Points.{is_point, first_not_point}
 use Rattle.surrogates.proofs.points.first_not_point.Goals as goal
-
-pub loop-i-init : goal.loop-i-init
-unfolding first_not_point
-loop-i-init c = passed_none _ _
-
-pub returns-then-not-is_point : goal.returns-then-not-is_point
-unfolding first_not_point
-returns-then-not-is_point c =
-    found_first c.loop-i.invariant (omega arith) (ap not (sym c.is_point.ensures) ∙ c.if-not-is_point.true-raw)
-
-pub loop-i-preserved : goal.loop-i-preserved
-unfolding first_not_point
-loop-i-preserved c =
-    passed-more c.loop-i.invariant (omega arith) (ap not (sym c.is_point.ensures) ∙ c.if-not-is_point.false-raw)
 
 pub returns : goal.returns
 unfolding first_not_point
-returns c = found_none c.loop-i.invariant (omega arith)
+returns c =
+    c.unwrap_or.ensures
+    ∙ first_from_position (λ p. not (is_point p)) _ _ _ c.position.ensures.ran (YieldsList-from_slice _ c.iter.ensures.rest)
+    (λ x q k. search (rules, tests)) (λ x q k. search (rules, tests))

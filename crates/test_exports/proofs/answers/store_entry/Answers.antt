@@ -3,10 +3,10 @@ use Rattle.nametable.specs.Answer.{entry_outcome}
 use Rattle.test_exports.specs.Answer.{entry_numbers_of}
 use Rattle.test_exports.proofs.answers.store_entry.Goals as goal
 
-pub returns-in-Entry : goal.returns-in-Entry
+pub returns-in-Ok : goal.returns-in-Ok
 unfolding entry_outcome entry_numbers_of
-returns-in-Entry c = rw (c.in-Entry.is, ← c.number.ensures) c.store.ensures
+returns-in-Ok c = rw (c.in-Ok.is, ← c.number.ensures) c.store.ensures
 
-pub returns-in-Error : goal.returns-in-Error
+pub returns-in-Err : goal.returns-in-Err
 unfolding entry_outcome entry_numbers_of
-returns-in-Error c = rw c.in-Error.is c.store_error.ensures
+returns-in-Err c = rw c.in-Err.is c.store_error.ensures

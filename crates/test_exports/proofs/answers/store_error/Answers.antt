@@ -2,4 +2,4 @@
 use Rattle.test_exports.proofs.answers.store_error.Goals as goal
 
 pub returns : goal.returns
-returns c = rw (← c.code_number.ensures) c.store.ensures
+returns c = rw (← c.from.ensures) c.store.ensures

@@ -4,31 +4,31 @@ use mathlib.Core.Path.{sym}
 use lib.ListN.{length}
 use lib.Seq.{length-take-le}
 use native.Mathlib.Omega.{arith}
-use Rattle.basis.specs.Outcome.{bytes_outcome}
+use Rattle.basis.specs.Outcome.{outcome_by}
 use Rattle.utf16.specs.Answer.{points_to_bytes_outcome}
 use Rattle.utf16.proofs.Refusals.{count-leaves, room-leaves, element-leaves, all-leaves, text-judged}
 use Rattle.basis.proofs.Clauses.{two_clauses}
 use Rattle.utf16.proofs.bytes.points_to_bytes.Goals as goal
 
 pub returns-then-points-n : goal.returns-then-points-n
-unfolding bytes_outcome points_to_bytes_outcome
+unfolding outcome_by points_to_bytes_outcome
 returns-then-points-n c =
-    two_clauses (λ a b. record { result_value = a; bytes_after = b }) (count-leaves _ _ _ _ _ 4 _ _ _ c.if-points-n.true)
+    rw c.at.ensures (two_clauses (λ a b. record { result_value = a; bytes_after = b }) (count-leaves _ _ _ _ _ 4 _ _ _ c.if-points-n.true))
 
 pub slice_bounds-row-end : goal.slice_bounds-row-end
 slice_bounds-row-end c = sym (length-take-le _ _ c.if-points-n.false)
 
 pub returns-then-bytes-needed : goal.returns-then-bytes-needed
-unfolding bytes_outcome points_to_bytes_outcome
+unfolding outcome_by points_to_bytes_outcome
 returns-then-bytes-needed c =
     let a = c.args in
-    two_clauses (λ a b. record { result_value = a; bytes_after = b }) (room-leaves (length a.points.now) a.count.0 (4 * a.count.0) (length a.bytes.now) _ 4 _ (omega arith) _ _ (omega arith))
+    rw c.at-then-bytes-needed.ensures (two_clauses (λ a b. record { result_value = a; bytes_after = b }) (room-leaves (length a.points.now) a.count.0 (4 * a.count.0) (length a.bytes.now) _ 4 _ (omega arith) _ _ (omega arith)))
 
 pub returns-then-bad-n : goal.returns-then-bad-n
-unfolding bytes_outcome points_to_bytes_outcome
+unfolding outcome_by points_to_bytes_outcome
 returns-then-bad-n c =
     let a = c.args in
-    two_clauses (λ a b. record { result_value = a; bytes_after = b }) (element-leaves (length a.points.now) a.count.0 (4 * a.count.0) (length a.bytes.now) _ 4 _ (omega arith) (omega arith) _ c.first_not_point-bad.ensures _ _ (omega arith))
+    rw c.at-then-bad-n.ensures (two_clauses (λ a b. record { result_value = a; bytes_after = b }) (element-leaves (length a.points.now) a.count.0 (4 * a.count.0) (length a.bytes.now) _ 4 _ (omega arith) (omega arith) _ c.first_not_point-bad.ensures _ _ (omega arith)))
 
 pub put_text-stored-requires : goal.put_text-stored-requires
 put_text-stored-requires c =
@@ -39,7 +39,7 @@ put_text-stored-requires c =
     }
 
 pub returns : goal.returns
-unfolding bytes_outcome points_to_bytes_outcome
+unfolding outcome_by points_to_bytes_outcome
 returns c =
     let a = c.args in
     two_clauses (λ a b. record { result_value = a; bytes_after = b }) (all-leaves (length a.points.now) a.count.0 (4 * a.count.0) (length a.bytes.now) _ 4 _ (omega arith) (omega arith) _ c.first_not_point-bad.ensures _ _ (omega arith) _ _ (c.put_text-stored.ensures.value, c.put_text-stored.ensures.bytes_after))

@@ -1,14 +1,13 @@
 -- `bytes::put_unit` meets its contract.
+use Prim.Native.Nat.{◌+◌}
 use mathlib.Core.Path.{refl}
-use lib.ListN.{length-set}
-use native.Mathlib.Numerals.{add-one}
 use native.Mathlib.Omega.{arith}
-use Rattle.utf16.specs.Bytes.{bytes_of_units}
+use Rattle.std.specs.Int.{w16, to_be_bytes}
+use Rattle.basis.proofs.Stores.{stored-part}
+use Rattle.utf16.proofs.BytePairs.{pair-bytes}
 use Rattle.utf16.proofs.bytes.put_unit.Goals as goal
 
-pub bounds-bytes-at-2 : goal.bounds-bytes-at-2
-bounds-bytes-at-2 c = rw length-set (omega arith)
-
 pub returns : goal.returns
-unfolding bytes_of_units
-returns c = rw add-one refl
+returns c =
+    let a = c.args in
+    rw (pair-bytes a.unit (omega arith), c.copy_from_slice.ensures.after, c.to_be_bytes.ensures) (stored-part a.bytes.now (to_be_bytes w16 a.unit) a.at (a.at + 2) refl c.requires)
