@@ -1,12 +1,12 @@
 -- Character and value are inverse over any alphabet that passes the test, and all three pass it.
 use Prim.Native.Nat.{ℕ, ◌≤◌, ◌<◌}
 use mathlib.Core.Path.{◌≡◌, refl, sym, ap, ◌∙◌}
-use mathlib.Core.Bool.{true, ◌||◌}
+use mathlib.Core.Bool.{true, false, ◌||◌, not}
 use mathlib.Core.Logic.{◌↔◌}
 use mathlib.Core.List.{List}
 use lib.Dec.{eqb}
 use lib.ListN.{length}
-use borrow.Author.Tests.{eqb-true}
+use borrow.Author.Tests.{eqb-true, lt-ltb}
 use native.Mathlib.Omega.{arith}
 use Rattle.basis.specs.Tests.{both, within, every, first_below, first_in}
 use Rattle.basis.specs.Rows.{at}
@@ -14,12 +14,17 @@ use Rattle.basis.proofs.Tests.{cases, by-lt, both_left, both_right, within_low, 
 use Rattle.basis.proofs.Lists.{at-past}
 use Rattle.ascii.specs.Case.{small, SameLetter}
 use Rattle.ascii.proofs.Case.{small-small, small-or-digit, letter-same, same-letter}
-use Rattle.alphabet.specs.Alphabet.{altdude, lace, brace, character_of, value_of, is_alphabet, is_distinct}
+use Rattle.alphabet.specs.Alphabet.{altdude, lace, brace, character_of, value_of, is_alphabet, is_distinct, is_character}
 
 -- the value looks at the small form alone
 pub value_same : (alphabet : List ℕ) (a b : ℕ) → small a ≡ small b → value_of alphabet a ≡ value_of alphabet b
 unfolding value_of
 value_same alphabet a b e = ap (λ (x : ℕ). first_in (eqb x) alphabet) e
+
+-- a byte whose value is 32 has none
+pub no-character : (alphabet : List ℕ) (byte value : ℕ) → value ≡ value_of alphabet byte → value ≡ 32 → not (is_character alphabet byte) ≡ true
+unfolding is_character
+no-character alphabet byte value e q = rw (← e, q)
 
 module _ (alphabet : List ℕ) (test : is_alphabet alphabet ≡ true) where
   pub length-alphabet : length alphabet ≡ 32
@@ -61,6 +66,13 @@ module _ (alphabet : List ℕ) (test : is_alphabet alphabet ≡ true) where
   pub value-le : (b : ℕ) → value_of alphabet b ≤ 32
   unfolding value_of
   value-le b = let l = first-le (length alphabet) (λ i. eqb (small b) (at alphabet i)) in omega (arith, length-alphabet)
+
+  pub a-character : (byte value : ℕ) → value ≡ value_of alphabet byte → (value ≡ 32 → ⊥) → not (is_character alphabet byte) ≡ false
+  unfolding is_character
+  a-character byte value e n = rw (lt-ltb (value_of alphabet byte) 32 (below (value-le byte) n e))
+    where
+      below : {x : ℕ} → x ≤ 32 → (value ≡ 32 → ⊥) → value ≡ x → x < 32
+      below h n e = omega arith
 
   -- the character for the value of a byte is that byte made small
   pub character-value : (b : ℕ) → value_of alphabet b < 32 → character_of alphabet (value_of alphabet b) ≡ small b

@@ -3,57 +3,38 @@
 use Prim.Native.Nat.{ℕ, zero, suc, ◌≤◌, ◌<◌}
 use mathlib.Core.Path.{◌≡◌, refl, sym, ap, ap₂, ◌∙◌, fun_ext}
 use mathlib.Core.Bool.{Bool, true, false}
-use mathlib.Core.Logic.{◌↔◌}
 use mathlib.Core.List.{List, [], ◌∷◌, ◌++◌, map}
 use lib.Dec.{eqb, leb}
-use lib.ListN.{length, take, drop, length-map, length-append, get_or-append}
-use Rattle.std.specs.Bool.{IsTrue}
-use Rattle.std.specs.Char.{to_ascii_lowercase}
-use Rattle.std.proofs.lemmas.List.{ext_get_or, length-take, get_or-take}
-use Rattle.std.proofs.lemmas.Str.Ascii.{lowercase_is}
+use lib.ListN.{length, drop, get_or, length-map, length-append, get_or-append}
+use Rattle.std.specs.Bool.{MatchBool}
+use Rattle.std.specs.List.{zip, AllWithin, HoldsAt}
+use Rattle.std.proofs.lemmas.Slice.Zip.{get_or-zip, length-zip}
 use lib.Seq.{drop_at}
 use borrow.Author.Tests.{leb-true, le-leb, lt-leb, eqb-true, eq-eqb}
 use native.Mathlib.Omega.{arith}
 use Rattle.basis.specs.Tests.{both, every}
 use Rattle.basis.specs.Rows.{at}
-use Rattle.basis.proofs.Lists.{at_map}
-use Rattle.basis.proofs.Tests.{cases, by-lt, true-not-false, both_left, both_right, both_true, at_each, each_at}
+use Rattle.basis.proofs.Tests.{both_left, both_right, both_true, at_each, not-each, each_at}
 use Rattle.ascii.specs.Case.{small}
 use Rattle.ascii.specs.Prefix.{has_prefix, after_prefix}
-use Rattle.ascii.proofs.Case.{small-inside, small-below, small-above, small-small, at_small}
+use Rattle.ascii.proofs.Case.{small-small, at_small}
 
 -- the element of the row at an index is that of the prefix, case ignored
 abbrev pub same_at : List ℕ → List ℕ → ℕ → Bool
 same_at prefix l i = eqb (small (at l i)) (small (at prefix i))
 
--- tests of one fact are the same
-same-test : (a b : Bool) {P : Type 0} → (a ≡ true) ↔ P → P ↔ (b ≡ true) → a ≡ b
-same-test a b e f =
-    cases a (λ t. t ∙ sym (f.0 (e.0 t))) (λ n. cases b (λ t. absurd (true-not-false (e.1 (f.1 t)) n)) (λ m. n ∙ sym m))
+-- the front of a row, as long as the prefix, beside the prefix: alike in every pair, or in one not
+paired_at : (p l : List ℕ) (k : ℕ) → length p ≤ length l → k < length p → eqb (small (get_or (zip l p) k (0, 0)).0) (small (get_or (zip l p) k (0, 0)).1) ≡ same_at p l k
+paired_at p l k h g = ap (λ (x : ℕ × ℕ). eqb (small x.0) (small x.1)) (get_or-zip l p k (0, 0) (omega arith) g)
 
--- the library's small form is ours
-lower-small : (b : ℕ) → to_ascii_lowercase b ≡ small b
-lower-small b =
-    by-lt b 65 (λ h. (lowercase_is b).1 h ∙ sym (small-below b h))
-    (λ l. by-lt 90 b (λ h. (lowercase_is b).2 h ∙ sym (small-above b h)) (λ h. (lowercase_is b).0 (l, h) ∙ sym (small-inside b l h)))
-
--- the front of the row, as long as the prefix, is the prefix, case ignored
-front_alike : (p l : List ℕ) → length p ≤ length l → (map to_ascii_lowercase (take (length p) l) ≡ map to_ascii_lowercase p) ↔ (every (length p) (same_at p l) ≡ true)
-front_alike p l h = (
-  λ e. each_at _ _ (λ i g. eq-eqb _ _ (sym (front i g) ∙ ap (λ (k : List ℕ). at k i) e ∙ whole i g)),
-  λ e. ext_get_or 0 _ _ (omega (arith, long, length-map p to_ascii_lowercase)) (λ i g. let k : i < length p = omega (arith, long) in front i k ∙ eqb-true _ _ (at_each _ _ e i k) ∙ sym (whole i k)),
-)
-  where
-    long : length (map to_ascii_lowercase (take (length p) l)) ≡ length p
-    long = omega (arith, length-map (take (length p) l) to_ascii_lowercase, length-take (length p) l)
-
-    front : (i : ℕ) → i < length p → at (map to_ascii_lowercase (take (length p) l)) i ≡ small (at l i)
-    front i g =
-        at_map to_ascii_lowercase (take (length p) l) i (omega (arith, h, g, length-take (length p) l))
-        ∙ lower-small (at (take (length p) l) i) ∙ ap small (get_or-take (length p) l i 0 g)
-
-    whole : (i : ℕ) → i < length p → at (map to_ascii_lowercase p) i ≡ small (at p i)
-    whole i g = at_map to_ascii_lowercase p i g ∙ lower-small (at p i)
+pub pairs-alike : (p l : List ℕ) → length p ≤ length l → (r : Bool)
+    → MatchBool r (AllWithin (λ x. eqb (small x.0) (small x.1) ≡ true) (zip l p) 0 (length (zip l p)))
+    ((k : ℕ) × (k < length (zip l p)) × HoldsAt (λ x. eqb (small x.0) (small x.1) ≡ false) (zip l p) k)
+    → r ≡ every (length p) (same_at p l)
+pairs-alike p l h true e = sym (each_at (length p) _ (λ k g. sym (paired_at p l k h g) ∙ e k (0, 0) (omega arith) (omega (arith, length-zip l p))))
+pairs-alike p l h false e =
+    let g : e.0 < length p = omega (arith, length-zip l p, e.1) in
+    sym (not-each (length p) _ e.0 g (sym (paired_at p l e.0 h g) ∙ e.2 (0, 0)))
 
 module _ (prefix l : List ℕ) where
   -- a row that has the prefix
@@ -76,9 +57,9 @@ module _ (prefix l : List ℕ) where
   unfolding has_prefix both
   prefix-short h = rw (lt-leb (length prefix) (length l) h)
 
-  pub prefix-compared : length prefix ≤ length l → (same : Bool) → (IsTrue same ↔ (map to_ascii_lowercase (take (length prefix) l) ≡ map to_ascii_lowercase prefix)) → same ≡ has_prefix prefix l
+  pub prefix-compared : length prefix ≤ length l → (same : Bool) → same ≡ every (length prefix) (same_at prefix l) → same ≡ has_prefix prefix l
   unfolding has_prefix both
-  prefix-compared h same e = rw (le-leb (length prefix) (length l) h) (same-test same (every (length prefix) (same_at prefix l)) e (front_alike prefix l h))
+  prefix-compared h same e = rw (le-leb (length prefix) (length l) h) e
 
   -- the small form of a row
   pub prefix-small : has_prefix prefix (map small l) ≡ has_prefix prefix l

@@ -69,7 +69,7 @@ pub fn capital_form(byte: u8) -> u8
 pub fn is_ldh(number: u32) -> bool
     ensures { result ≡ is_ldh number }
 {
-    matches!(number, 45 | 48..=57 | 65..=90 | 97..=122)
+    matches!(number, 48..=57 | 65..=90 | 97..=122) || number == 45
 }
 
 // Whether all elements are LDH.
@@ -152,5 +152,5 @@ pub fn has_prefix(label: &[u8], prefix: &[u8]) -> bool
     if label.len() < prefix.len() {
         return false;
     }
-    label[..prefix.len()].eq_ignore_ascii_case(prefix)
+    label.iter().zip(prefix).all(|(&byte, &expected)| small_form(byte) == small_form(expected))
 }

@@ -4,6 +4,7 @@ pub mod Regroup
 pub mod Form
 pub mod Windows
 pub mod Values
+pub mod Search
 pub mod Outcomes
 pub mod RoundTrip
 pub mod Examples

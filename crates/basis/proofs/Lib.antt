@@ -1,6 +1,7 @@
 -- The laws on the shared definitions.
 pub mod Clauses
 pub mod Tests
+pub mod Scan
 pub mod Lists
 pub mod Stores
 pub mod Copying

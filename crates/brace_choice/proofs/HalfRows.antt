@@ -1,14 +1,17 @@
--- The choice of a half-row, as the chains compute it.
+-- The choice of a half-row, as the loop and the chains compute it.
 use Prim.Native.Nat.{ℕ, ◌+◌, ◌-◌, ◌*◌, ◌/◌, ◌≤◌, ◌<◌}
 use mathlib.Core.Path.{◌≡◌, refl, ap, ap₂, ◌∙◌}
 use mathlib.Core.Bool.{Bool, true, false, cond}
 use mathlib.Core.List.{List, [], ◌∷◌}
 use lib.Dec.{eqb, ltb}
-use lib.ListN.{length}
+use lib.ListN.{length, drop, get_or, drop_of_length-le}
+use lib.Seq.{drop-cons}
 use Rattle.std.specs.Prelude.{count_by}
+use Rattle.std.specs.Int.{from_bool}
 use Rattle.std.specs.List.{fold}
 use Rattle.std.proofs.lemmas.List.Sums.{sum_by-cons}
 use borrow.Author.Tests.{eq-eqb, ne_eqb, eqb-true, lt-ltb, le-ltb}
+use native.Mathlib.Numerals.{add-one}
 use native.Mathlib.Omega.{arith}
 use Rattle.basis.specs.Tests.{pick, both}
 use Rattle.basis.proofs.Tests.{cases}
@@ -24,6 +27,35 @@ counted h (c ∷ codes) = sum_by-cons (λ x. cond (eqb (x / 128) h) 1 0) c codes
     once : (b : Bool) → ◌≡◌ {A = ℕ} (cond b 1 0) (pick b 1 0)
     once true = refl
     once false = refl
+
+-- a code counts 1 in its half-row, else 0
+module _ (h c r : ℕ) (is : r ≡ from_bool (eqb (c / 128) h)) where
+  pub one_code : r ≡ count_in h (c ∷ [])
+  unfolding count_in
+  one_code = is ∙ cases (eqb (c / 128) h) (λ t. rw t) (λ f. rw f)
+
+  pub one-most : r ≤ 1
+  one-most = rw is (cases (eqb (c / 128) h) (λ t. rw t (omega arith)) (λ f. rw f (omega arith)))
+
+-- n codes of the half-row are counted, those from i on are left
+pub record Counting (h : ℕ) (codes : List ℕ) (n i : ℕ) : Type 0 where
+  pub total : count_in h codes ≡ n + count_in h (drop i codes)
+  pub most : n ≤ i
+  pub inside : i ≤ length codes
+
+pub counting-start : (h : ℕ) (codes : List ℕ) → Counting h codes 0 0
+counting-start h codes = record { total = omega arith; most = omega arith; inside = omega arith }
+
+module _ {h : ℕ} {codes : List ℕ} {n i : ℕ} (p : Counting h codes n i) where
+  pub counting-turn : i < length codes → (r : ℕ) → r ≡ count_in h (get_or codes i 0 ∷ []) → r ≤ 1 → Counting h codes (n + r) (i + 1)
+  unfolding count_in
+  counting-turn l r e b = record { total = p.total ∙ rw (drop-cons codes i 0 l, add-one) (omega (arith, e)); most = omega (arith, p.most); inside = omega arith }
+
+  pub counting-end : length codes ≤ i → (n ≡ count_in h codes) × (n ≤ length codes)
+  unfolding count_in
+  counting-end l =
+      let e : count_in h (drop i codes) ≡ 0 = rw drop_of_length-le in
+      (omega (arith, p.total), omega (arith, p.most, p.inside))
 
 -- no half-row is the other one
 other_differs : (h c : ℕ) → eqb (c / 128) h ≡ true → eqb (c / 128) (other_half h) ≡ false

@@ -220,7 +220,11 @@ impl Progress {
         Progress {
             style: self.style,
             mode,
-            queue,
+            // Number by number: a queue copied whole is packed and unpacked at each byte, and reading took half as long again.
+            queue: Queue {
+                count: queue.count,
+                value: queue.value,
+            },
         }
     }
 }

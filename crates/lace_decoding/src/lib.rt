@@ -19,8 +19,9 @@ pub fn decode(label: &[u8], text: &mut [u32]) -> Result<PointCount, Refusal>
     ensures result_value { points_outcome result ≡ decode_outcome is_host_label (length text.old) label.now }
     ensures text_after { text.new ≡ buffer_after (decode_outcome is_host_label (length text.old) label.now) (text_of label.now) text.old }
 {
+    let prefixed = lace_format::has_prefix(label);
     labels::check_label(label.len(), text.len())?;
-    if !lace_format::has_prefix(label) {
+    if !prefixed {
         return Err(ErrorCode::NoPrefix.at(0));
     }
     // Fixed memory, so a buffer for the most octets there can be, and their count.

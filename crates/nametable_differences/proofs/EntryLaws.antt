@@ -1,6 +1,6 @@
 -- Texts and entries compared.
-use Prim.Native.Nat.{ℕ, suc}
-use mathlib.Core.Path.{◌≡◌, refl, sym, ap}
+use Prim.Native.Nat.{ℕ, suc, ◌<◌}
+use mathlib.Core.Path.{◌≡◌, refl, sym, ap, ◌∙◌}
 use mathlib.Core.Bool.{true, false}
 use mathlib.Core.List.{List, [], ◌∷◌}
 use lib.Dec.{eqb}
@@ -13,7 +13,8 @@ use Rattle.std.specs.Result.{IsOk}
 use Rattle.basis.specs.Outcome.{done}
 use Rattle.basis.specs.declared.Refusal.{Refusal}
 use Rattle.basis.specs.Tests.{both, every}
-use Rattle.basis.proofs.Tests.{cases, both_false}
+use Rattle.basis.specs.Rows.{at}
+use Rattle.basis.proofs.Tests.{cases, each_at, not-each, both_true, both_false}
 use Rattle.scheme.specs.Naming.{number_of}
 use Rattle.nametable_format.specs.Format.{entry_at, scheme_in}
 use Rattle.nametable.specs.Answer.{text_in, entry_text, judged_entry_outcome, entry_outcome, entry_from}
@@ -39,6 +40,22 @@ same_points (x ∷ xs) (y ∷ ys) =
     cases (eqb x y)
     (λ e. rw (e, eqb_suc (length xs) (length ys)) (same_points xs ys))
     (λ e. rw e (sym (both_false (eqb (suc (length xs)) (suc (length ys))))))
+
+module _ (xs ys : List ℕ) where
+  -- texts of other lengths
+  pub longer-text : (length xs ≡ length ys → ⊥) → false ≡ same_text xs ys
+  unfolding same_text both
+  longer-text other = rw (ne_eqb _ _ other)
+
+  -- texts with another point at an index
+  pub other_text : (i : ℕ) → i < length xs → (at xs i ≡ at ys i → ⊥) → false ≡ same_text xs ys
+  unfolding same_text
+  other_text i h other =
+      sym (ap (both (eqb (length xs) (length ys))) (not-each (length xs) (λ k. eqb (at xs k) (at ys k)) i h (ne_eqb _ _ other)) ∙ both_false _)
+
+  pub same-text : length xs ≡ length ys → ((k : ℕ) → k < length xs → eqb (at xs k) (at ys k) ≡ true) → true ≡ same_text xs ys
+  unfolding same_text
+  same-text long each = sym (both_true (eq-eqb _ _ long) (each_at (length xs) _ each))
 
 -- an entry that is found is answered
 pub answered-ok : (t : List ℕ) (i capacity : ℕ) → judged_entry_outcome t i capacity ≡ done (length (entry_text t i))

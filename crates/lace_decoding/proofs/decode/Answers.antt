@@ -32,19 +32,19 @@ returns-in_err-check_label c =
     rw (handed_on c.from_residual.ensures) (two_clauses (λ a b. record { result_value = a; text_after = b }) (refused-leaves (decode_outcome is_host_label _ c.args.label.now) _ _ _ _
     (check-stops _ _ c.check_label.ensures _ c.in_err-check_label.was)))
 
-pub returns-then-not-has_prefix : goal.returns-then-not-has_prefix
+pub returns-then-not-prefixed : goal.returns-then-not-prefixed
 unfolding outcome_by decode_outcome
-returns-then-not-has_prefix c =
+returns-then-not-prefixed c =
     let l = c.args.label.now in
     rw c.at.ensures (two_clauses (λ a b. record { result_value = a; text_after = b }) (refused-leaves (decode_outcome is_host_label _ l) _ _ 8 0
     (check-passes _ _ c.check_label.ensures _ c.in_ok-check_label.was
-    ∙ stop-given 8 0 _ _ (not (has_prefix prefix l)) (ap not c.has_prefix.ensures) c.if-not-has_prefix.true-raw)))
+    ∙ stop-given 8 0 _ _ (not (has_prefix prefix l)) (ap not c.has_prefix-prefixed.ensures) c.if-not-prefixed.true-raw)))
 
 pub slice_bounds-decode-count : goal.slice_bounds-decode-count
-slice_bounds-decode-count c = prefix-fits _ _ c.has_prefix.ensures c.if-not-has_prefix.false-raw
+slice_bounds-decode-count c = prefix-fits _ _ c.has_prefix-prefixed.ensures c.if-not-prefixed.false-raw
 
 pub slice_bounds-decode-start : goal.slice_bounds-decode-start
-slice_bounds-decode-start c = prefix-fits _ _ c.has_prefix.ensures c.if-not-has_prefix.false-raw
+slice_bounds-decode-start c = prefix-fits _ _ c.has_prefix-prefixed.ensures c.if-not-prefixed.false-raw
 
 pub map_err-requires : goal.map_err-requires
 map_err-requires c =
@@ -93,11 +93,11 @@ returns-in_err-count c =
     let given = c.in_err-count.field-0.0 in
     let r = mapped-refused _ _ _ c.map_err.ensures.cases _ c.in_err-count.was in
     let told : refused (number_of given.code) given.position ≡ error_after_prefix (number_of r.0.code) r.0.position = let gave = r.2 in search (rules, tests) in
-    two_clauses (λ a b. record { result_value = a; text_after = b }) (answer-error _ _ (label-checked _ c.in_ok-check_label.was _ _ c.check_label.ensures) _ c.has_prefix.ensures c.if-not-has_prefix.false-raw
+    two_clauses (λ a b. record { result_value = a; text_after = b }) (answer-error _ _ (label-checked _ c.in_ok-check_label.was _ _ c.check_label.ensures) _ c.has_prefix-prefixed.ensures c.if-not-prefixed.false-raw
     _ c.decode.ensures.result_value _ r.1 _ (ap points_outcome (handed_on c.from_residual-in_err-count.ensures) ∙ told))
 
 pub returns : goal.returns
 unfolding outcome_by
 returns c =
-    two_clauses (λ a b. record { result_value = a; text_after = b }) (answer-octets _ _ (label-checked _ c.in_ok-check_label.was _ _ c.check_label.ensures) _ c.has_prefix.ensures c.if-not-has_prefix.false-raw
+    two_clauses (λ a b. record { result_value = a; text_after = b }) (answer-octets _ _ (label-checked _ c.in_ok-check_label.was _ _ c.check_label.ensures) _ c.has_prefix-prefixed.ensures c.if-not-prefixed.false-raw
     _ c.decode.ensures.result_value _ (mapped-done _ _ _ c.map_err.ensures.cases _ c.in_ok-count.was) _ _ c.decode.ensures.octets_after _ _ (c.decode_octets.ensures.result_value, c.decode_octets.ensures.text_after))
